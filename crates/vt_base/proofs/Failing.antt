@@ -1,0 +1,22 @@
+-- Calls that are to fail, and the counter that passes them.
+use Rattle.std.proofs.Common.{◌≡◌, ℕ, ◌≤◌, true, false, nat_eq, nat_lt, List, [], ◌∷◌, refl, arith}
+use Rattle.std.proofs.lemmas.Grind.{common_steps}
+use Rattle.std.specs.List.{list_all, list_any}
+use Rattle.vt_base.specs.Faults.{counted}
+use Rattle.vt_base.specs.Memory.{Plan, called, is_steady, is_to_fail}
+
+none_at : (failing : List ℕ) (n : ℕ) → list_all (λ call. nat_lt call n) failing ≡ true → list_any (λ call. nat_eq call n) failing ≡ false
+none_at [] n all = refl
+none_at (call ∷ failing) n all = grind (arith, common_steps, none_at failing n)
+
+all_below : (failing : List ℕ) (n m : ℕ) → n ≤ m → list_all (λ call. nat_lt call n) failing ≡ true → list_all (λ call. nat_lt call m) failing ≡ true
+all_below [] n m le all = refl
+all_below (call ∷ failing) n m le all = grind (arith, common_steps, all_below failing n m le)
+
+-- where no call is to fail, the next one isn't
+pub next_is_sure : (plan : Plan) → is_steady plan ≡ true → is_to_fail plan ≡ false
+next_is_sure plan sure = none_at plan.failing (counted plan.calls) sure
+
+-- and none is after it
+pub later_are_sure : (plan : Plan) → is_steady plan ≡ true → is_steady (called plan) ≡ true
+later_are_sure plan sure = all_below plan.failing (counted plan.calls) (counted (counted plan.calls)) (omega arith) sure

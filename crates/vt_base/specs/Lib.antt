@@ -1,0 +1,11 @@
+pub mod Buffer
+pub mod Faults
+pub mod Input
+pub mod Layout
+pub mod Lending
+pub mod Memory
+pub mod Numbers
+pub mod Output
+pub mod Status
+pub mod Stream
+pub mod Verdict

@@ -1,0 +1,15 @@
+-- Bytes and the numbers that they spell. (Own definitions.)
+use Rattle.std.specs.Prelude.{ℕ, ◌<◌, List, slice_index}
+use Rattle.std.specs.Int.{w32, w64, to_be_bytes}
+
+-- each number of the list fits a byte
+abbrev pub IsBytes : List ℕ → Type 0
+IsBytes bytes = (i : ℕ) → slice_index bytes i < 256
+
+-- a number in four bytes, the highest first
+abbrev pub number : ℕ → List ℕ
+number n = to_be_bytes w32 n
+
+-- and in eight
+abbrev pub long : ℕ → List ℕ
+long n = to_be_bytes w64 n
