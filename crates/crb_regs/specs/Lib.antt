@@ -1,0 +1,4 @@
+pub mod LittleEndian
+pub mod Access
+pub mod Effects
+pub mod Registers
