@@ -1,0 +1,4 @@
+pub mod Phases
+pub mod Content
+pub mod State
+pub mod Steps

@@ -1,0 +1,293 @@
+use super::*;
+use std::test::Fail;
+
+// How many bytes the buffer has.
+const BUFFER_LENGTH: usize = 3968;
+
+// What is done to a device, and what it shows.
+#[derive(Clone, Copy)]
+enum Step {
+    // Offset, size, and the value that is read.
+    Read(u32, u8, u64),
+    // Offset, size, and the value that is written.
+    Write(u32, u8, u64),
+    // The number of the claimed job, and whether it is cancelled.
+    Claim(u64, bool),
+    // No job waits.
+    NoJob,
+    // The answer to the claimed job, and the bytes of its response.
+    Answer(Outcome, &'static [u8]),
+}
+
+use Step::{Claim, NoJob, Read, Write};
+
+// A device and the job that is claimed.
+#[derive(Drop)]
+struct Bench {
+    device: Device,
+    job: Option<Job>,
+}
+
+impl Bench {
+    // Does a step; false where it can't be done, or the device shows something else.
+    fn does(&mut self, step: Step) -> bool {
+        match step {
+            Read(offset, size, wanted) => match Access::new(offset, size, None) {
+                Some(access) => self.device.read(&access) == wanted,
+                None => false,
+            },
+            Write(offset, size, value) => match Access::new(offset, size, Some(value)) {
+                Some(access) => {
+                    self.device.write(&access);
+                    true
+                }
+                None => false,
+            },
+            Claim(number, cancelled) => {
+                self.job = self.device.claim();
+                matches!(&self.job, Some(job) if job.number == number && job.cancelled == cancelled)
+            }
+            NoJob => self.device.claim().is_none(),
+            Step::Answer(outcome, response) => self.answers(outcome, response),
+        }
+    }
+
+    fn answers(&mut self, outcome: Outcome, response: &[u8]) -> bool {
+        let Some(
+            Job {
+                number,
+                mut buf,
+                ..
+            },
+        ) = self.job.take()
+        else {
+            return false;
+        };
+        let device = &self.device;
+        if response.len() > BUFFER_LENGTH
+            || !matches!(device.slot, Slot::Claimed)
+            || number != device.number
+        {
+            return false;
+        }
+        buf.hold(response);
+        self.device.post(Answer {
+            number,
+            outcome,
+            buf,
+        });
+        true
+    }
+}
+
+// Does some scripts on a device after a reset. The first step that isn't as it is to be, by script and place.
+fn first_wrong(alloc: Global, scripts: &[&[Step]]) -> Result<Option<(usize, usize)>, AllocError> {
+    let device = Device::new(alloc)?;
+    let mut bench = Bench { device, job: None };
+    for (script, steps) in scripts.iter().enumerate() {
+        for (place, step) in steps.iter().enumerate() {
+            if !bench.does(*step) {
+                return Ok(Some((script, place)));
+            }
+        }
+    }
+    Ok(None)
+}
+
+// Takes access and starts the command Startup(CLEAR).
+const STARTUP: [Step; 6] = [
+    Write(0x08, 4, 1),
+    Write(0x40, 4, 1),
+    Write(0x80, 4, 0x180),
+    Write(0x84, 4, 0xC00),
+    Write(0x88, 4, 0x4401),
+    Write(0x4C, 4, 1),
+];
+
+// A response without parameters.
+const SUCCESS: [u8; 10] = [0x80, 1, 0, 0, 0, 10, 0, 0, 0, 0];
+
+#[test]
+fn reads_after_a_reset(rt: HostRuntime) -> Result<(), Fail> {
+    let steps = [
+        Read(0x00, 4, 0x81),
+        Read(0x30, 4, 0x0002_5811),
+        Read(0x34, 4, 0x0000_1014),
+        Read(0x44, 4, 2),
+        Read(0x58, 4, 0xF80),
+        Read(0x5C, 4, 0xFED4_0080),
+        Read(0x68, 8, 0xFED4_0080),
+        Read(0xFFC, 4, 0xFFFF_FFFF),
+        NoJob,
+    ];
+    assert_eq!(rt; first_wrong(rt.alloc(), &[&steps])?, None);
+    Ok(())
+}
+
+#[test]
+fn odd_places_and_values(rt: HostRuntime) -> Result<(), Fail> {
+    let steps = [
+        // Over the first byte of CTRL_STS and of the buffer, and from the middle of RSP_ADDR.
+        Read(0x42, 4, 0x0002_0000),
+        Read(0x7E, 4, 0xFFFF_0000),
+        Read(0x7C, 8, 0xFFFF_FFFF_0000_0000),
+        Read(0x69, 8, 0x00FE_D400),
+        // 3 asks for nothing.
+        Write(0x08, 4, 3),
+        Read(0x0C, 4, 0),
+        Write(0x08, 1, 1),
+        Read(0x00, 4, 0x83),
+        Read(0x0C, 4, 1),
+        Write(0x08, 4, 2),
+        Read(0x00, 4, 0x81),
+    ];
+    assert_eq!(rt; first_wrong(rt.alloc(), &[&steps])?, None);
+    Ok(())
+}
+
+#[test]
+fn buffer(rt: HostRuntime) -> Result<(), Fail> {
+    let steps = [
+        // Idle takes no bytes and shows none.
+        Write(0x80, 4, 1),
+        Read(0x80, 4, 0xFFFF_FFFF),
+        Write(0x40, 4, 1),
+        Read(0x80, 4, 0),
+        Read(0x44, 4, 0),
+        // A write that begins before the buffer sets none of its bytes.
+        Write(0x7E, 4, 0xFFFF_FFFF),
+        Read(0x80, 4, 0),
+        Write(0x80, 8, 0x0102_0304_0506_0708),
+        Write(0x83, 2, 0xAABB),
+        Read(0x80, 8, 0x0102_03AA_BB06_0708),
+        Write(0xFF8, 8, 0x1112_1314_1516_1718),
+        Read(0xFFF, 1, 0x11),
+        // Asking for ready again does nothing; idle makes the buffer zeros.
+        Write(0x40, 4, 1),
+        Read(0x80, 1, 0x08),
+        Write(0x40, 4, 2),
+        Read(0x44, 4, 2),
+        Read(0x80, 1, 0xFF),
+        Write(0x40, 4, 1),
+        Read(0x80, 8, 0),
+        Read(0xFF8, 8, 0),
+    ];
+    assert_eq!(rt; first_wrong(rt.alloc(), &[&steps])?, None);
+    Ok(())
+}
+
+#[test]
+fn start_without_access(rt: HostRuntime) -> Result<(), Fail> {
+    let steps = [Read(0x4C, 4, 0), Read(0x80, 4, 0x180), NoJob];
+    assert_eq!(rt; first_wrong(rt.alloc(), &[&STARTUP[1..], &steps])?, None);
+    Ok(())
+}
+
+#[test]
+fn whole_command(rt: HostRuntime) -> Result<(), Fail> {
+    let steps = [
+        Read(0x4C, 4, 1),
+        Read(0x80, 4, 0xFFFF_FFFF),
+        Claim(1, false),
+        NoJob,
+        // No write is taken while the command is executed, and giving access back leaves the command alone.
+        Write(0x80, 4, 5),
+        Write(0x40, 4, 1),
+        Write(0x4C, 4, 1),
+        Write(0x08, 4, 2),
+        Read(0x00, 4, 0x81),
+        Read(0x4C, 4, 1),
+        Read(0x88, 4, 0xFFFF_FFFF),
+        Step::Answer(Outcome::Done, &SUCCESS),
+        NoJob,
+        Read(0x4C, 4, 0),
+        Read(0x44, 4, 0),
+        Read(0x80, 4, 0x180),
+        Read(0x84, 4, 0xA00),
+        // Behind the response are zeros, and nothing is written over it.
+        Read(0x88, 4, 0),
+        Write(0x80, 4, 5),
+        Read(0x80, 4, 0x180),
+        Write(0x40, 4, 1),
+        Read(0x80, 8, 0),
+    ];
+    let next = [Claim(2, false)];
+    assert_eq!(rt;
+        first_wrong(rt.alloc(), &[&STARTUP, &steps, &STARTUP, &next])?,
+        None
+    );
+    Ok(())
+}
+
+#[test]
+fn job_holds_the_command(rt: HostRuntime) -> Result<(), Fail> {
+    let device = Device::new(rt.alloc())?;
+    let mut bench = Bench { device, job: None };
+    for step in STARTUP {
+        assert!(rt; bench.does(step));
+    }
+    let job = bench.device.claim().ok_or("no job")?;
+    let command = [0x80, 1, 0, 0, 0, 12, 0, 0, 1, 0x44, 0, 0, 0];
+    for (place, wanted) in command.iter().enumerate() {
+        assert_eq!(rt; job.buf.get(place), *wanted, "at {place}");
+    }
+    Ok(())
+}
+
+#[test]
+fn lost_answer(rt: HostRuntime) -> Result<(), Fail> {
+    let steps = [
+        Claim(1, false),
+        Step::Answer(Outcome::Lost, &[]),
+        Read(0x44, 4, 1),
+        Read(0x4C, 4, 0),
+        Read(0x80, 4, 0xFFFF_FFFF),
+        // No write does anything any more.
+        Write(0x40, 4, 1),
+        Write(0x40, 4, 2),
+        Write(0x08, 4, 2),
+        Write(0x48, 4, 1),
+        Read(0x00, 4, 0x83),
+        Read(0x44, 4, 1),
+        Read(0x48, 4, 0),
+    ];
+    assert_eq!(rt; first_wrong(rt.alloc(), &[&STARTUP, &steps])?, None);
+    Ok(())
+}
+
+#[test]
+fn cancel(rt: HostRuntime) -> Result<(), Fail> {
+    let set = [Write(0x48, 4, 1), Read(0x48, 4, 1)];
+    let clear = [Write(0x48, 4, 0), Read(0x48, 4, 0)];
+    let cancelled = [Claim(1, true)];
+    let not_cancelled = [Claim(1, false)];
+    let answered = [
+        Read(0x4C, 4, 1),
+        Step::Answer(Outcome::Cancelled, &SUCCESS),
+        Read(0x4C, 4, 0),
+        Read(0x80, 4, 0x180),
+        Read(0x48, 4, 1),
+    ];
+    let alloc = rt.alloc();
+    // Before the claim; a 0 that is written later changes nothing.
+    assert_eq!(rt;
+        first_wrong(alloc, &[&STARTUP, &set, &cancelled, &answered])?,
+        None
+    );
+    assert_eq!(rt;
+        first_wrong(alloc, &[&STARTUP, &set, &clear, &cancelled])?,
+        None
+    );
+    // After the claim.
+    assert_eq!(rt;
+        first_wrong(alloc, &[&STARTUP, &not_cancelled, &set, &answered])?,
+        None
+    );
+    // CANCEL at START.
+    assert_eq!(rt; first_wrong(alloc, &[&set, &STARTUP, &cancelled])?, None);
+    assert_eq!(rt;
+        first_wrong(alloc, &[&set, &clear, &STARTUP, &not_cancelled])?,
+        None
+    );
+    Ok(())
+}
