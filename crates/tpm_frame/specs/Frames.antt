@@ -1,0 +1,32 @@
+-- Frames by their size fields.
+use Rattle.std.specs.Prelude.{◌≡◌, ℕ, ◌-◌, List, ◌++◌, take, drop, min, max, All}
+use Rattle.std.specs.List.{concat}
+use Rattle.std.specs.Int.{w32, from_be_bytes}
+use Rattle.std.proofs.Common.{lit≤, arith}
+use Rattle.vt_base.specs.Layout.{Layout, Ends, Field, Spells, IsOpen, IsWithin}
+
+-- how long a frame is that begins so: the number in the last four of six bytes, at least 10 and at most 3968
+abbrev pub frame_length_of : List ℕ → ℕ
+frame_length_of head = min (max (from_be_bytes w32 (take 4 (drop 2 head))) 10) 3968
+
+-- six bytes, and as many more as make up the length that they tell
+unfoldable pub frames : Layout (Unit {0})
+frames = Field 6 (λ head. Field (frame_length_of head - 6) (λ body. Ends tt))
+
+-- no frame has more bytes than the buffer
+pub frames_within : IsWithin frames 3968
+unfolding frames
+frames_within = (lit≤ tt, λ head. (omega arith, λ _. tt))
+
+-- these bytes are one frame
+abbrev pub IsFrame : List ℕ → Type 0
+IsFrame bytes = Spells frames tt bytes
+
+-- no front of these bytes is a frame
+abbrev pub IsPart : List ℕ → Type 0
+IsPart bytes = IsOpen frames bytes
+
+-- the stream is these frames, one after the other, and then the rest
+pub record AreCut (cut : List (List ℕ)) (stream rest : List ℕ) : Type 0 where
+  pub each : All IsFrame cut
+  pub joined : stream ≡ concat cut ++ rest
