@@ -1,0 +1,213 @@
+-- Values stay fit.
+use Rattle.std.proofs.Common.{◌≡◌, ℕ, ◌^◌, ◌<◌, Bool, true, false, List, [], ◌∷◌, ◌++◌, length, get_or, set, take, cond, ltb, subst, Option, Some, None, refl, sym, ap, ◌∙◌, arith, inl, inr}
+use Rattle.std.specs.Prelude.{IfSome}
+use Rattle.std.proofs.lemmas.Bool.{cases_eq, ltb-true}
+use Rattle.std.proofs.lemmas.List.{length-set, get_or-set_same, get_or-set_other, get_or-take, get_or-replicate, length-replicate}
+use Rattle.std.proofs.lemmas.List.FromFn.{fill_by_all}
+use Rattle.tpm_core.specs.declared.algorithm.Algorithm.{Algorithm}
+use Rattle.tpm_core.specs.declared.algorithm.Algorithm.TheVariants.{Sha256}
+use Rattle.tpm_core.specs.declared.parts.SavedParts.{SavedParts}
+use Rattle.tpm_core.specs.declared.parts.TpmParts.{TpmParts}
+use Rattle.tpm_core.specs.Algorithms.{digest_size, digest_of, digests_by}
+use Rattle.tpm_core.specs.Banks.{zeros, ones, is_dynamic, blank_bank, each_register, start_value, hashed, bank_of, kept_bank_of}
+use Rattle.tpm_core.specs.Fresh.{manufactured}
+use Rattle.sha2.proofs.Facts256.{length-sha256}
+use Rattle.tpm_core.specs.Past.{Deed, booted, started, shut_down, drew, extended, boots_of, is_started, draws_of, saved_state, starting_value, starting_counter, digests_since, count_since, register_value, counter_of, values, value_at_start, counter_at_start}
+use Rattle.tpm_core.specs.Answers.{kept}
+use Rattle.tpm_core.specs.Steps.{IsFit, IsKept, IsStopped, HaveWidth, after, CanDo}
+use Rattle.tpm_core.proofs.Looking.{same_parts, same_bank, get_register, length-each_register, values-booted, values-started, values-shut_down, values-drew, values-extended}
+
+-- one more deed
+pub values-cons : (b : TpmParts) (past : List Deed) (deed : Deed) → CanDo (values b past) deed → values b (deed ∷ past) ≡ after (values b past) deed
+values-cons b past booted can = values-booted b past
+values-cons b past (started state) can = values-started b past state can
+values-cons b past (shut_down state) can = values-shut_down b past state
+values-cons b past drew can = values-drew b past
+values-cons b past (extended i measurements) can = values-extended b past i measurements can.0 can.1
+
+-- with no deed the values are those of b
+value_on : (b : TpmParts) (a : Algorithm) → b.started ≡ true → (i : ℕ) → register_value b [] a i ≡ get_or (bank_of a b) i []
+unfolding register_value is_started starting_value digests_since
+value_on b a on i = rw on refl
+
+value_off : (b : TpmParts) (a : Algorithm) → b.started ≡ false → (i : ℕ) → register_value b [] a i ≡ zeros (digest_size a)
+unfolding register_value is_started
+value_off b a off i = rw off refl
+
+bank_on : (b : TpmParts) (a : Algorithm) → IsFit b → b.started ≡ true → each_register (register_value b [] a) ≡ bank_of a b
+unfolding each_register
+bank_on b a fit on = same_bank (register_value b [] a) (λ i. get_or (bank_of a b) i []) (value_on b a on) ∙ sym (fill_by_all (λ i. get_or (bank_of a b) i []) (bank_of a b) 24 [] (fit.registers a) (λ k lt. refl))
+
+bank_off : (b : TpmParts) (a : Algorithm) → b.started ≡ false → each_register (register_value b [] a) ≡ blank_bank a
+unfolding each_register blank_bank
+bank_off b a off = same_bank (register_value b [] a) (λ i. zeros (digest_size a)) (value_off b a off)
+
+bank_of_b : (b : TpmParts) → IsFit b → (on : Bool) → b.started ≡ on → each_register (register_value b [] Sha256) ≡ b.pcr
+bank_of_b b fit true on = bank_on b Sha256 fit on
+bank_of_b b fit false off = bank_off b Sha256 off ∙ sym (fit.stopped off).pcr
+
+counter_of_b : (b : TpmParts) → IsFit b → (on : Bool) → b.started ≡ on → counter_of b [] ≡ b.counter
+unfolding counter_of is_started starting_counter count_since
+counter_of_b b fit true on = rw on (omega (arith, fit.counter))
+counter_of_b b fit false off = rw off (sym (fit.stopped off).counter)
+
+pub values-nil : (b : TpmParts) → IsFit b → values b [] ≡ b
+unfolding values boots_of is_started draws_of saved_state
+values-nil b fit = same_parts _ _ refl (omega (arith, fit.boots)) (omega (arith, fit.draws)) refl (bank_of_b b fit b.started refl) (counter_of_b b fit b.started refl) refl
+
+if_width : (n : ℕ) (b : Bool) (x y : List ℕ) → (b ≡ true → length x ≡ n) → length y ≡ n → length (cond b x y) ≡ n
+if_width n true x y p q = p refl
+if_width n false x y p q = q
+
+-- ---- registers have as many bytes as a digest
+
+length-digest_of : (a : Algorithm) (message : List ℕ) → length (digest_of a message) ≡ digest_size a
+length-digest_of Sha256 message = length-sha256 message
+
+length-hashed : (a : Algorithm) (old : List ℕ) (digests : List (List ℕ)) → length old ≡ digest_size a → length (hashed a old digests) ≡ digest_size a
+length-hashed a old [] h = h
+length-hashed a old (digest ∷ digests) h = length-hashed a (digest_of a (old ++ digest)) digests (length-digest_of a (old ++ digest))
+
+length-start_value : (n i : ℕ) → length (start_value n i) ≡ n
+length-start_value n i = if_width n (is_dynamic i) (ones n) (zeros n) (λ e. length-replicate n 255) (length-replicate n 0)
+
+length-value_at_start : (a : Algorithm) (state : Option SavedParts) → IfSome state IsKept → (i : ℕ) → length (value_at_start a state i) ≡ digest_size a
+length-value_at_start a None h i = length-start_value (digest_size a) i
+length-value_at_start a (Some s) h i = if_width (digest_size a) (ltb i 16) (get_or (kept_bank_of a s) i []) (start_value (digest_size a) i) (λ below. h.width a i (ltb-true i 16 below)) (length-start_value (digest_size a) i)
+
+extended_width : (a : Algorithm) (registers : List (List ℕ)) (i : ℕ) (digests : List (List ℕ)) → length registers ≡ 24 → i < 24 → HaveWidth a 24 registers → HaveWidth a 24 (set registers i (hashed a (get_or registers i []) digests))
+extended_width a registers i digests size lt h k below =
+    elim (cases_eq k i) [
+      | inl e ↦ ap (λ (x : ℕ). length (get_or (set registers i (hashed a (get_or registers i []) digests)) x [])) e ∙ ap length (get_or-set_same registers i (hashed a (get_or registers i []) digests) [] (omega arith)) ∙ length-hashed a (get_or registers i []) digests (h i lt)
+      | inr ne ↦ ap length (get_or-set_other registers i k (hashed a (get_or registers i []) digests) [] ne) ∙ h k below
+    ]
+
+kept_width : (a : Algorithm) (registers : List (List ℕ)) → HaveWidth a 24 registers → HaveWidth a 16 (take 16 registers)
+kept_width a registers h i lt = ap length (get_or-take 16 registers i [] lt) ∙ h i (omega arith)
+
+kept_bank : (a : Algorithm) (v : TpmParts) → IsFit v → HaveWidth a 16 (kept_bank_of a (kept v))
+kept_bank Sha256 v fit = kept_width Sha256 v.pcr (fit.width Sha256)
+
+kept_is_kept : (v : TpmParts) → IsFit v → IsKept (kept v)
+kept_is_kept v fit = record { counter = fit.counter; width = λ a. kept_bank a v fit }
+
+counter_small : (state : Option SavedParts) → IfSome state IsKept → counter_at_start state < 2 ^ 32
+counter_small None h = omega arith
+counter_small (Some s) h = h.counter
+
+true_off : (b : Bool) → b ≡ true → b ≡ false → ⊥
+true_off b p q = cc
+
+still_stopped : (v : TpmParts) (state : Option SavedParts) → IsStopped v → IsStopped (record v { saved = state })
+still_stopped v state h = record { draws = h.draws; counter = h.counter; pcr = h.pcr }
+
+-- ---- each bank of the values that a deed leaves
+
+-- a bank in order
+abbrev IsBank : Algorithm → List (List ℕ) → Type 0
+IsBank a bank = (length bank ≡ 24) × HaveWidth a 24 bank
+
+blank_is_bank : (a : Algorithm) → IsBank a (blank_bank a)
+unfolding blank_bank
+blank_is_bank a = (length-replicate 24 (zeros (digest_size a)), λ i lt. ap length (get_or-replicate 24 i (zeros (digest_size a)) [] lt) ∙ length-replicate (digest_size a) 0)
+
+started_is_bank : (a : Algorithm) (state : Option SavedParts) → IfSome state IsKept → IsBank a (each_register (value_at_start a state))
+started_is_bank a state h = (length-each_register (value_at_start a state), λ i lt. ap length (get_register (value_at_start a state) i lt) ∙ length-value_at_start a state h i)
+
+extended_is_bank : (a : Algorithm) (bank : List (List ℕ)) (i : ℕ) (digests : List (List ℕ)) → IsBank a bank → i < 24 → IsBank a (set bank i (hashed a (get_or bank i []) digests))
+extended_is_bank a bank i digests h lt = (length-set bank i (hashed a (get_or bank i []) digests) ∙ h.0, extended_width a bank i digests h.0 lt h.1)
+
+-- what holds of the bank of each algorithm
+each : (P : Algorithm → Type 0) → P Sha256 → (a : Algorithm) → P a
+each P p Sha256 = p
+
+banks_of : (v : TpmParts) → IsBank Sha256 v.pcr → (a : Algorithm) → IsBank a (bank_of a v)
+banks_of v p = each (λ a. IsBank a (bank_of a v)) p
+
+pub fit-manufactured : (seed : List ℕ) → IsFit (manufactured seed)
+fit-manufactured seed =
+    let banks = banks_of (manufactured seed) (blank_is_bank Sha256) in
+    record {
+      boots = omega arith;
+      draws = omega arith;
+      counter = omega arith;
+      registers = λ a. (banks a).0;
+      width = λ a. (banks a).1;
+      stopped = λ off. record { draws = refl; counter = refl; pcr = refl };
+      kept_fits = tt;
+      kept_agrees = λ on. tt;
+    }
+
+pub fit-after : (v : TpmParts) (deed : Deed) → IsFit v → CanDo v deed → IsFit (after v deed)
+fit-after v booted fit can =
+    let banks = banks_of (after v booted) (blank_is_bank Sha256) in
+    record {
+      boots = omega arith;
+      draws = omega arith;
+      counter = omega arith;
+      registers = λ a. (banks a).0;
+      width = λ a. (banks a).1;
+      stopped = λ off. record { draws = refl; counter = refl; pcr = refl };
+      kept_fits = fit.kept_fits;
+      kept_agrees = λ on. absurd cc;
+    }
+fit-after v (started state) fit can =
+    let banks = banks_of (after v (started state)) (started_is_bank Sha256 state can) in
+    record {
+      boots = fit.boots;
+      draws = fit.draws;
+      counter = counter_small state can;
+      registers = λ a. (banks a).0;
+      width = λ a. (banks a).1;
+      stopped = λ off. absurd cc;
+      kept_fits = tt;
+      kept_agrees = λ on. tt;
+    }
+fit-after v (shut_down None) fit can =
+    let banks = banks_of (after v (shut_down None)) (fit.registers Sha256, fit.width Sha256) in
+    record {
+      boots = fit.boots;
+      draws = fit.draws;
+      counter = fit.counter;
+      registers = λ a. (banks a).0;
+      width = λ a. (banks a).1;
+      stopped = λ off. still_stopped v None (fit.stopped off);
+      kept_fits = tt;
+      kept_agrees = λ on. tt;
+    }
+fit-after v (shut_down (Some state)) fit can =
+    let banks = banks_of (after v (shut_down (Some state))) (fit.registers Sha256, fit.width Sha256) in
+    record {
+      boots = fit.boots;
+      draws = fit.draws;
+      counter = fit.counter;
+      registers = λ a. (banks a).0;
+      width = λ a. (banks a).1;
+      stopped = λ off. still_stopped v (Some state) (fit.stopped off);
+      kept_fits = subst IsKept (sym can) (kept_is_kept v fit);
+      kept_agrees = λ on. can;
+    }
+fit-after v drew fit can =
+    let banks = banks_of (after v drew) (fit.registers Sha256, fit.width Sha256) in
+    record {
+      boots = fit.boots;
+      draws = omega arith;
+      counter = fit.counter;
+      registers = λ a. (banks a).0;
+      width = λ a. (banks a).1;
+      stopped = λ off. absurd (true_off v.started can off);
+      kept_fits = fit.kept_fits;
+      kept_agrees = fit.kept_agrees;
+    }
+fit-after v (extended i measurements) fit can =
+    let banks = banks_of (after v (extended i measurements)) (extended_is_bank Sha256 v.pcr i (digests_by Sha256 measurements) (fit.registers Sha256, fit.width Sha256) can.1) in
+    record {
+      boots = fit.boots;
+      draws = fit.draws;
+      counter = omega arith;
+      registers = λ a. (banks a).0;
+      width = λ a. (banks a).1;
+      stopped = λ off. absurd (true_off v.started can.0 off);
+      kept_fits = tt;
+      kept_agrees = λ on. tt;
+    }

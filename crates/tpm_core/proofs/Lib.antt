@@ -1,0 +1,9 @@
+pub mod Measured
+pub mod Loops
+pub mod Looking
+pub mod InReach
+pub mod Fit
+pub mod Law
+pub mod Run
+pub mod Replies
+pub mod Chosen

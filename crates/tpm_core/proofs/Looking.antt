@@ -1,0 +1,139 @@
+-- The values looked back at, after one more deed.
+use Rattle.std.proofs.Common.{◌≡◌, ℕ, suc, ◌+◌, ◌%◌, ◌^◌, ◌<◌, Bool, true, false, cond, List, [], ◌∷◌, ◌++◌, length, get_or, set, Option, Some, None, refl, sym, ap, ◌∙◌, arith, inl, inr, eqb, eq-eqb, ne_eqb, ◌≢◌}
+use Rattle.std.proofs.lemmas.Bool.{cases_eq}
+use Rattle.std.proofs.Math.Nat.{mod-add-mod}
+use Rattle.std.specs.Prelude.{IfSome}
+use Rattle.std.proofs.lemmas.List.{append-nil, get_or-set_same, get_or-set_other, length-set}
+use Rattle.std.proofs.lemmas.List.FromFn.{get_or-map-range_with_len, length-map-range_with_len, fill_by_all}
+use Rattle.tpm_core.specs.declared.parts.SavedParts.{SavedParts}
+use Rattle.tpm_core.specs.declared.parts.TpmParts.{TpmParts}
+use Rattle.tpm_core.specs.declared.algorithm.Algorithm.{Algorithm}
+use Rattle.tpm_core.specs.declared.algorithm.Algorithm.TheVariants.{Sha256}
+use Rattle.tpm_core.specs.declared.algorithm.Measurement.{Measurement}
+use Rattle.tpm_core.specs.Algorithms.{digests_by}
+use Rattle.tpm_core.specs.Banks.{blank_bank, each_register, hashed}
+use Rattle.tpm_core.proofs.Measured.{hashed-append}
+use Rattle.tpm_core.specs.Past.{Deed, booted, started, shut_down, drew, extended, is_boot, is_draw, since_boot, has_booted, count_of, boots_of, is_started, draws_of, saved_state, starting_value, starting_counter, digests_since, count_since, counter_at_start, register_value, counter_of, values}
+use Rattle.tpm_core.specs.Steps.{IsKept, after}
+
+-- values that agree in each field
+pub same_parts : (v w : TpmParts) → v.seed ≡ w.seed → v.boots ≡ w.boots → v.draws ≡ w.draws → v.started ≡ w.started → v.pcr ≡ w.pcr → v.counter ≡ w.counter → v.saved ≡ w.saved → v ≡ w
+same_parts v w a b c d e f g =
+    ap (λ (x : List ℕ). record v { seed = x }) a
+    ∙ ap (λ (x : ℕ). record v { seed = w.seed; boots = x }) b
+    ∙ ap (λ (x : ℕ). record v { seed = w.seed; boots = w.boots; draws = x }) c
+    ∙ ap (λ (x : Bool). record w { started = x; pcr = v.pcr; counter = v.counter; saved = v.saved }) d
+    ∙ ap (λ (x : List (List ℕ)). record w { pcr = x; counter = v.counter; saved = v.saved }) e
+    ∙ ap (λ (x : ℕ). record w { counter = x; saved = v.saved }) f
+    ∙ ap (λ (x : Option SavedParts). record w { saved = x }) g
+
+-- one more, where the rest is taken modulo m
+one_more : (a n m : ℕ) → (a + suc n) % m ≡ ((a + n) % m + 1) % m
+one_more a n m = ap (λ (x : ℕ). x % m) (omega arith) ∙ sym (mod-add-mod (a + n) m 1)
+
+more : (a n k m : ℕ) → (a + (n + k)) % m ≡ ((a + n) % m + k) % m
+more a n k m = ap (λ (x : ℕ). x % m) (omega arith) ∙ sym (mod-add-mod (a + n) m k)
+
+counter_fits : (state : Option SavedParts) → IfSome state IsKept → (counter_at_start state + 0) % 2 ^ 32 ≡ counter_at_start state
+counter_fits None h = refl
+counter_fits (Some s) h = omega (arith, h.counter)
+
+pub get_register : (f : ℕ → List ℕ) (i : ℕ) → i < 24 → get_or (each_register f) i [] ≡ f i
+unfolding each_register
+get_register f i lt = get_or-map-range_with_len f 0 24 i i [] lt (omega arith)
+
+pub length-each_register : (f : ℕ → List ℕ) → length (each_register f) ≡ 24
+unfolding each_register
+length-each_register f = length-map-range_with_len f 0 24
+
+pub same_bank : (f g : ℕ → List ℕ) → ((i : ℕ) → f i ≡ g i) → each_register f ≡ each_register g
+unfolding each_register
+same_bank f g h = fill_by_all g (each_register f) 24 [] (length-each_register f) (λ k lt. get_register f k lt ∙ h k)
+
+-- one register is set
+set_register : (f g : ℕ → List ℕ) (i : ℕ) (y : List ℕ) → i < 24 → g i ≡ y → ((k : ℕ) → k ≢ i → g k ≡ f k) → each_register g ≡ set (each_register f) i y
+unfolding each_register
+set_register f g i y lt same other =
+    let size : i < length (each_register f) = omega (arith, length-each_register f) in
+    sym (fill_by_all g (set (each_register f) i y) 24 [] (length-set (each_register f) i y ∙ length-each_register f) (λ k below.
+    elim (cases_eq k i) [
+      | inl e ↦ ap (λ (x : ℕ). get_or (set (each_register f) i y) x []) e ∙ get_or-set_same (each_register f) i y [] size ∙ sym same ∙ ap g (sym e)
+      | inr ne ↦ get_or-set_other (each_register f) i k y [] ne ∙ get_register f k below ∙ sym (other k ne)
+    ]))
+
+eqb_same : (k : ℕ) → eqb k k ≡ true
+eqb_same k = eq-eqb k k refl
+
+-- the step of a register's digests
+digests_here : (past : List Deed) (a : Algorithm) (i : ℕ) (measurements : List Measurement) → digests_since (extended i measurements ∷ past) a i ≡ digests_since past a i ++ digests_by a measurements
+unfolding digests_since
+digests_here past a i measurements = rw eqb_same refl
+
+digests_elsewhere : (past : List Deed) (a : Algorithm) (i k : ℕ) (measurements : List Measurement) → k ≢ i → digests_since (extended i measurements ∷ past) a k ≡ digests_since past a k
+unfolding digests_since
+digests_elsewhere past a i k measurements ne = let no : eqb k i ≡ false = ne_eqb k i ne in rw no (append-nil (digests_since past a k))
+
+-- extends leave the start as it is
+value_when_on : (b : TpmParts) (past : List Deed) (a : Algorithm) (i : ℕ) → is_started b past ≡ true → register_value b past a i ≡ hashed a (starting_value b past a i) (digests_since past a i)
+unfolding register_value
+value_when_on b past a i on = rw on refl
+
+counter_when_on : (b : TpmParts) (past : List Deed) → is_started b past ≡ true → counter_of b past ≡ (starting_counter b past + count_since past) % 2 ^ 32
+unfolding counter_of
+counter_when_on b past on = rw on refl
+
+started-extended : (b : TpmParts) (past : List Deed) (i : ℕ) (measurements : List Measurement) → is_started b (extended i measurements ∷ past) ≡ is_started b past
+unfolding is_started
+started-extended b past i measurements = refl
+
+value_here : (b : TpmParts) (past : List Deed) (a : Algorithm) (i : ℕ) (measurements : List Measurement) → is_started b past ≡ true → register_value b (extended i measurements ∷ past) a i ≡ hashed a (register_value b past a i) (digests_by a measurements)
+unfolding starting_value
+value_here b past a i measurements on =
+    rw (value_when_on b (extended i measurements ∷ past) a i (started-extended b past i measurements ∙ on), digests_here past a i measurements, value_when_on b past a i on)
+    (hashed-append a (starting_value b past a i) (digests_since past a i) (digests_by a measurements))
+
+value_elsewhere : (b : TpmParts) (past : List Deed) (a : Algorithm) (i k : ℕ) (measurements : List Measurement) → is_started b past ≡ true → k ≢ i → register_value b (extended i measurements ∷ past) a k ≡ register_value b past a k
+unfolding starting_value
+value_elsewhere b past a i k measurements on ne =
+    rw (value_when_on b (extended i measurements ∷ past) a k (started-extended b past i measurements ∙ on), digests_elsewhere past a i k measurements ne, value_when_on b past a k on) refl
+
+-- a bank is set at one place
+bank_here : (b : TpmParts) (past : List Deed) (a : Algorithm) (i : ℕ) (measurements : List Measurement) → is_started b past ≡ true → i < 24
+    → each_register (register_value b (extended i measurements ∷ past) a) ≡ set (each_register (register_value b past a)) i (hashed a (get_or (each_register (register_value b past a)) i []) (digests_by a measurements))
+bank_here b past a i measurements on lt =
+    let here : register_value b (extended i measurements ∷ past) a i ≡ hashed a (get_or (each_register (register_value b past a)) i []) (digests_by a measurements)
+    = rw (get_register (register_value b past a) i lt) (value_here b past a i measurements on) in
+    set_register (register_value b past a) (register_value b (extended i measurements ∷ past) a) i _ lt here (λ k ne. value_elsewhere b past a i k measurements on ne)
+
+counter_here : (b : TpmParts) (past : List Deed) (i : ℕ) (measurements : List Measurement) → is_started b past ≡ true → counter_of b (extended i measurements ∷ past) ≡ (counter_of b past + length measurements) % 2 ^ 32
+unfolding starting_counter count_since
+counter_here b past i measurements on =
+    rw (counter_when_on b (extended i measurements ∷ past) (started-extended b past i measurements ∙ on), counter_when_on b past on)
+    (more (starting_counter b past) (count_since past) (length measurements) (2 ^ 32))
+
+draws_here : (b : TpmParts) (past : List Deed) → draws_of b (drew ∷ past) ≡ (draws_of b past + 1) % 2 ^ 64
+unfolding draws_of
+draws_here b past = ap (λ (x : ℕ). x % 2 ^ 64) (omega arith) ∙ sym (mod-add-mod (count_of is_draw (since_boot past) + cond (has_booted past) 0 b.draws) (2 ^ 64) 1)
+
+-- ---- one more deed
+
+pub values-booted : (b : TpmParts) (past : List Deed) → values b (booted ∷ past) ≡ after (values b past) booted
+unfolding values boots_of draws_of is_started register_value counter_of saved_state each_register blank_bank
+values-booted b past = same_parts _ _ refl (one_more b.boots (count_of is_boot past) (2 ^ 64)) refl refl refl refl refl
+
+pub values-started : (b : TpmParts) (past : List Deed) (state : Option SavedParts) → IfSome state IsKept → values b (started state ∷ past) ≡ after (values b past) (started state)
+unfolding values boots_of draws_of is_started register_value counter_of saved_state starting_value starting_counter digests_since count_since
+values-started b past state fits = same_parts _ _ refl refl refl refl refl (counter_fits state fits) refl
+
+pub values-shut_down : (b : TpmParts) (past : List Deed) (state : Option SavedParts) → values b (shut_down state ∷ past) ≡ after (values b past) (shut_down state)
+unfolding values boots_of draws_of is_started register_value counter_of saved_state starting_value starting_counter digests_since count_since
+values-shut_down b past state = refl
+
+pub values-drew : (b : TpmParts) (past : List Deed) → values b (drew ∷ past) ≡ after (values b past) drew
+unfolding values boots_of is_started register_value counter_of saved_state starting_value starting_counter digests_since count_since
+values-drew b past = same_parts _ _ refl refl (draws_here b past) refl refl refl refl
+
+pub values-extended : (b : TpmParts) (past : List Deed) (i : ℕ) (measurements : List Measurement) → (values b past).started ≡ true → i < 24 → values b (extended i measurements ∷ past) ≡ after (values b past) (extended i measurements)
+unfolding values boots_of draws_of is_started saved_state
+values-extended b past i measurements on lt =
+    same_parts _ _ refl refl refl refl (bank_here b past Sha256 i measurements on lt) (counter_here b past i measurements on) refl

@@ -1,0 +1,19 @@
+use Rattle.tpm_core.proofs.Replies.{answer_is_response, reply_not_cancelled, succeeded_is_read}
+use Rattle.tpm_core.specs.Answers.{read_by, values_after, answer}
+use Rattle.tpm_core.proofs.laws.answers_are_responses.Goals as goal
+
+pub returns-clause-response : goal.returns-clause-response
+returns-clause-response c = answer_is_response
+
+pub returns-clause-frame : goal.returns-clause-frame
+returns-clause-frame c = λ b past command fit.
+    let is = answer_is_response b past command fit in
+    c.sized_bytes_are_frames.ensures (answer b past command) is.head is.room is.size
+
+pub returns-clause-not_cancelled : goal.returns-clause-not_cancelled
+unfolding answer
+returns-clause-not_cancelled c = λ b past command. reply_not_cancelled (values_after b past) (read_by (values_after b past) command)
+
+pub returns-clause-succeeded : goal.returns-clause-succeeded
+unfolding answer
+returns-clause-succeeded c = λ b past command. succeeded_is_read (values_after b past) (read_by (values_after b past) command)

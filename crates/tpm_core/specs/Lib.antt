@@ -1,0 +1,10 @@
+pub mod Algorithms
+pub mod Banks
+pub mod Refusals
+pub mod Reading
+pub mod Selected
+pub mod Past
+pub mod Answers
+pub mod Steps
+pub mod Fresh
+pub mod Responses

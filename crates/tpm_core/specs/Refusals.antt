@@ -1,0 +1,23 @@
+-- The response codes of refusals.
+use Rattle.std.specs.Prelude.{ℕ}
+use Rattle.tpm_core.specs.declared.refusal.Refusal.{Refusal}
+use Rattle.tpm_core.specs.declared.refusal.Refusal.TheVariants.{BadTag, CommandSize, CommandCode, Initialize, AuthMissing, AuthContext, HandleCut, HandleValue, AuthSize, SessionValue, BadAuth, ParameterCut, ParameterValue, ParameterSize, ParameterHash, Locality}
+
+-- the code by the TPM 2.0 Library; those of a handle, a session or a parameter tell that it is the first
+abbrev pub code_of : Refusal → ℕ
+code_of BadTag = 0x1E
+code_of CommandSize = 0x142
+code_of CommandCode = 0x143
+code_of Initialize = 0x100
+code_of AuthMissing = 0x125
+code_of AuthContext = 0x145
+code_of HandleCut = 0x19A
+code_of HandleValue = 0x184
+code_of AuthSize = 0x144
+code_of SessionValue = 0x984
+code_of BadAuth = 0x9A2
+code_of ParameterCut = 0x1DA
+code_of ParameterValue = 0x1C4
+code_of ParameterSize = 0x1D5
+code_of ParameterHash = 0x1C3
+code_of Locality = 0x907

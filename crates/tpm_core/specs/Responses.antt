@@ -1,0 +1,20 @@
+-- What every response is.
+use Rattle.std.specs.Prelude.{◌≡◌, ℕ, ◌≤◌, Bool, ◌||◌, List, length, IsTrue, ◌==◌}
+use Rattle.std.specs.Int.{w16, w32}
+use Rattle.tpm_frame.specs.declared.TheConstants.{NO_SESSIONS, SESSIONS, RSP_COMMAND, CANCELED}
+use Rattle.tpm_frame.specs.Frame.{number_at, short}
+
+-- a tag of a response
+abbrev pub is_response_tag : ℕ → Bool
+is_response_tag tag = tag == NO_SESSIONS || tag == SESSIONS || tag == RSP_COMMAND
+
+-- bytes with the tag of a response and their length in the size field
+pub record IsResponse (bytes : List ℕ) : Type 0 where
+  pub head : 10 ≤ length bytes
+  pub room : length bytes ≤ 3968
+  pub tag : IsTrue (is_response_tag (number_at w16 0 bytes))
+  pub size : number_at w32 2 bytes ≡ length bytes
+
+-- the response to a command that was cancelled
+abbrev pub cancelled : List ℕ
+cancelled = short CANCELED

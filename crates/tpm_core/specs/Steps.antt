@@ -1,0 +1,78 @@
+-- The TPM as a machine: which values make sense, and what each deed does to them.
+use Rattle.std.specs.Prelude.{◌≡◌, ℕ, ◌+◌, ◌%◌, ◌^◌, ◌<◌, ◌≤◌, Bool, true, false, List, [], length, Option, Some, None, IfSome, slice_index_or, slice_set}
+use Rattle.tpm_core.specs.declared.algorithm.Algorithm.{Algorithm}
+use Rattle.tpm_core.specs.declared.algorithm.Algorithm.TheVariants.{Sha256}
+use Rattle.tpm_core.specs.declared.parts.SavedParts.{SavedParts}
+use Rattle.tpm_core.specs.declared.parts.TpmParts.{TpmParts}
+use Rattle.tpm_core.specs.Algorithms.{digest_size, digests_by}
+use Rattle.tpm_core.specs.Banks.{blank_bank, each_register, hashed, bank_of, kept_bank_of}
+use Rattle.tpm_core.specs.Past.{Deed, booted, started, shut_down, drew, extended, value_at_start, counter_at_start}
+use Rattle.tpm_core.specs.declared.command.Command.{Command}
+use Rattle.tpm_core.specs.declared.command.Command.TheVariants.{Startup, Shutdown, GetRandom, PcrRead, PcrExtend}
+use Rattle.tpm_core.specs.Answers.{kept, powered_on}
+
+-- the values of a TPM that isn't started
+pub record IsStopped (v : TpmParts) : Type 0 where
+  pub draws : v.draws ≡ 0
+  pub counter : v.counter ≡ 0
+  pub pcr : v.pcr ≡ blank_bank Sha256
+
+-- each of the first n values is as long as a digest
+abbrev pub HaveWidth : Algorithm → ℕ → List (List ℕ) → Type 0
+HaveWidth a n values = (i : ℕ) → i < n → length (slice_index_or values i []) ≡ digest_size a
+
+-- a state that a shutdown can keep
+pub record IsKept (state : SavedParts) : Type 0 where
+  pub counter : state.counter < 2 ^ 32
+  pub width : (a : Algorithm) → HaveWidth a 16 (kept_bank_of a state)
+
+-- values that agree with one another: nothing runs where the TPM isn't started, and a saved state is that of now where it is
+pub record IsConsistent (v : TpmParts) : Type 0 where
+  pub stopped : v.started ≡ false → IsStopped v
+  pub kept_agrees : v.started ≡ true → IfSome v.saved (λ state. state ≡ kept v)
+
+-- values that a TPM can have
+pub record IsFit (v : TpmParts) : Type 0 where
+  pub boots : v.boots < 2 ^ 64
+  pub draws : v.draws < 2 ^ 64
+  pub counter : v.counter < 2 ^ 32
+  pub registers : (a : Algorithm) → length (bank_of a v) ≡ 24
+  pub width : (a : Algorithm) → HaveWidth a 24 (bank_of a v)
+  pub stopped : v.started ≡ false → IsStopped v
+  pub kept_fits : IfSome v.saved IsKept
+  pub kept_agrees : v.started ≡ true → IfSome v.saved (λ state. state ≡ kept v)
+
+-- the values after one deed
+abbrev pub after : TpmParts → Deed → TpmParts
+after v booted = powered_on v
+after v (started state) = record v { started = true; pcr = each_register (value_at_start Sha256 state); counter = counter_at_start state; saved = None }
+after v (shut_down state) = record v { saved = state }
+after v drew = record v { draws = (v.draws + 1) % 2 ^ 64 }
+after v (extended i measurements) = record v { pcr = slice_set v.pcr i (hashed Sha256 (slice_index_or v.pcr i []) (digests_by Sha256 measurements)); counter = (v.counter + length measurements) % 2 ^ 32; saved = None }
+
+-- the values after a deed, if there is one
+abbrev pub after_deed : TpmParts → Option Deed → TpmParts
+after_deed v None = v
+after_deed v (Some deed) = after v deed
+
+-- only a TPM that is started has its registers extended
+abbrev pub CanDo : TpmParts → Deed → Type 0
+CanDo v booted = Unit {0}
+CanDo v (started state) = IfSome state IsKept
+CanDo v (shut_down None) = Unit {0}
+CanDo v (shut_down (Some state)) = state ≡ kept v
+CanDo v drew = v.started ≡ true
+CanDo v (extended i measurements) = (v.started ≡ true) × (i < 24)
+
+-- a deed that can be done, if there is one
+abbrev pub CanDoIfAny : TpmParts → Option Deed → Type 0
+CanDoIfAny v None = Unit {0}
+CanDoIfAny v (Some deed) = CanDo v deed
+
+-- what a command that was read may ask for
+abbrev pub IsInReach : Bool → Command → Type 0
+IsInReach on (PcrExtend extension) = (on ≡ true) × IfSome extension.0 (λ i. i < 24)
+IsInReach on (GetRandom asked) = on ≡ true
+IsInReach on (PcrRead selections) = length selections ≤ 16
+IsInReach on (Startup mode) = Unit {0}
+IsInReach on (Shutdown mode) = Unit {0}

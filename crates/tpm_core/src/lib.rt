@@ -1,0 +1,37 @@
+//! A TPM of five commands (Startup, Shutdown, GetRandom, PCR_Read, PCR_Extend), with one bank of 24 registers by
+//! SHA-256.
+//!
+//! ```text
+//! let mut tpm = Tpm::manufacture(seed);
+//! tpm.power_on();
+//! let size = tpm.execute(&command, &mut into);
+//! let response = &into.bytes()[..size];
+//! ```
+//!
+//! Its values and its answers are found by looking back over its past, a list of what it went through with the latest
+//! entry first: a register has its value at the latest start, onto which the digests since were hashed. Commands,
+//! responses and codes are those of the TPM 2.0 Library; the checks come in an order of our own, and a command that
+//! fails one does nothing. How bytes reach the TPM is left to others.
+#![tactic(auto)]
+
+mod algorithm;
+mod bank;
+mod codes;
+mod command;
+mod deeds;
+mod few;
+mod fitting;
+pub mod laws;
+mod parts;
+mod reader;
+mod refusal;
+mod response;
+mod selected;
+mod tpm;
+
+pub use algorithm::SHA256_DIGEST_SIZE;
+pub use parts::{KEPT_PCR_COUNT, PCR_COUNT, SEED_SIZE, SavedParts, TpmParts};
+pub use tpm::Tpm;
+
+#[cfg(test)]
+mod tests;

@@ -1,0 +1,46 @@
+//! The values of a TPM.
+
+use crate::algorithm::SHA256_DIGEST_SIZE;
+
+/// How many bytes a seed has.
+pub const SEED_SIZE: usize = 32;
+
+/// How many registers a bank has.
+pub const PCR_COUNT: usize = 24;
+
+/// How many registers of a bank a shutdown keeps, from the first on.
+pub const KEPT_PCR_COUNT: usize = 16;
+
+/// The first of the registers that only other localities than the guest's reset and extend.
+pub const FIRST_DYNAMIC_PCR: usize = 17;
+
+/// The last of them.
+pub const LAST_DYNAMIC_PCR: usize = 22;
+
+/// What a shutdown keeps for a start to bring back.
+#[derive(Clone, Copy)]
+pub struct SavedParts {
+    /// How often registers were extended, modulo 2^32.
+    pub counter: u32,
+    /// The first registers of the bank of SHA-256.
+    pub pcr: [[u8; SHA256_DIGEST_SIZE]; KEPT_PCR_COUNT],
+}
+
+/// The values of a TPM. Where it isn't started, the registers and the counter are zeros and `draws` is 0.
+#[derive(Drop)]
+pub struct TpmParts {
+    /// What its random bytes are made from.
+    pub seed: [u8; SEED_SIZE],
+    /// How often power came on, modulo 2^64.
+    pub boots: u64,
+    /// How often random bytes were drawn since power came on, modulo 2^64.
+    pub draws: u64,
+    /// Whether it was started since power came on.
+    pub started: bool,
+    /// The bank of SHA-256.
+    pub pcr: [[u8; SHA256_DIGEST_SIZE]; PCR_COUNT],
+    /// How often registers were extended, modulo 2^32.
+    pub counter: u32,
+    /// What the latest shutdown kept, where nothing has made it stale.
+    pub saved: Option<SavedParts>,
+}
