@@ -1,0 +1,35 @@
+-- Numbers by their hexadecimal digits.
+use Rattle.std.proofs.Common.{◌≡◌, ℕ, zero, suc, ◌+◌, ◌-◌, ◌*◌, ◌/◌, ◌%◌, ◌^◌, ◌<◌, ◌≤◌, List, [], ◌∷◌, ◌++◌, refl, ap, ◌∙◌, append_assoc, arith, lit<}
+use Rattle.std.proofs.Math.Nat.{pow-le-pow_right, pow-succ'}
+use Rattle.std.proofs.lemmas.Nat.{pow-add}
+use Rattle.vt_script.specs.Replies.{hex_digit, hex_digits}
+
+pub power16_fits : (n : ℕ) → n < 16 → 16 ^ n ≤ 16 ^ 15
+power16_fits n few = let most : n ≤ 15 = omega arith in pow-le-pow_right (lit< tt) most
+
+pub power16_grows : (n m : ℕ) → n ≤ m → 16 ^ n ≤ 16 ^ m
+power16_grows n m few = pow-le-pow_right (lit< tt) few
+
+pub power256 : (n : ℕ) → 16 ^ (2 * n) ≡ 256 ^ n
+power256 zero = refl
+power256 (suc n) =
+    let two : 2 * suc n ≡ 2 + 2 * n = omega arith in
+    rw (two, pow-add 16 2 (2 * n), pow-succ' 256 n) (ap (λ m. 256 * m) (power256 n))
+
+power16 : (n : ℕ) → 2 ^ (4 * n) ≡ 16 ^ n
+power16 zero = refl
+power16 (suc n) =
+    let four : 4 * suc n ≡ 4 + 4 * n = omega arith in
+    rw (four, pow-add 2 4 (4 * n), pow-succ' 16 n) (ap (λ m. 16 * m) (power16 n))
+
+pub shift_digit : (value k : ℕ) → value / 2 ^ (4 * k) % 16 ≡ value / 16 ^ k % 16
+shift_digit value k = rw (power16 k) refl
+
+pub hex_digits-first : (count value : ℕ) → 0 < count → hex_digits count value ≡ hex_digit (value / 16 ^ (count - 1) % 16) ∷ hex_digits (count - 1) value
+hex_digits-first zero value some = absurd (omega arith)
+hex_digits-first (suc count) value some = let less : suc count - 1 ≡ count = omega arith in rw less refl
+
+-- one more digit is written
+pub digits-more : (old now whole : List ℕ) (count value digit : ℕ) → 0 < count → digit ≡ hex_digit (value / 16 ^ (count - 1) % 16) → old ++ hex_digits count value ≡ whole → now ≡ old ++ digit ∷ [] → now ++ hex_digits (count - 1) value ≡ whole
+digits-more old now whole count value digit some is before more =
+    rw (more, is) (append_assoc old _ _ ∙ rw (hex_digits-first count value some) at before)

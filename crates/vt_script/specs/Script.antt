@@ -1,0 +1,102 @@
+-- The lines of a script (own).
+use Rattle.std.specs.Prelude.{ℕ, ◌+◌, ◌-◌, ◌*◌, ◌&&◌, ◌==◌, nat_lt, nat_le, if◌then◌else◌, Bool, true, false, List, [], ◌∷◌, length, Option, Some, None, option_and_then}
+use Rattle.std.specs.List.{slice_split}
+use Rattle.std.specs.Str.{bytes_eq}
+use lib.Chars.{codes}
+use Rattle.crb_regs.specs.declared.access.TheConstants.{PAGE_SIZE}
+use Rattle.crb_regs.specs.declared.effect.Effect.{Effect}
+use Rattle.crb_regs.specs.declared.effect.Effect.TheVariants.{Cancel}
+use Rattle.crb_regs.specs.Effects.{effect}
+use Rattle.vt_script.specs.declared.parts.TheConstants.{LINE_FEED}
+use Rattle.vt_script.specs.declared.event.TheConstants.{SPACE, OFFSET_DIGITS, BYTE_DIGITS}
+use Rattle.vt_script.specs.declared.event.Event.{Event}
+use Rattle.vt_script.specs.declared.event.Event.TheVariants.{Access, Work}
+
+-- the parts between separators; there is one more of them than separators
+abbrev pub parts_of : ℕ → List ℕ → List (List ℕ)
+parts_of separator bytes = slice_split (λ b. b == separator) bytes
+
+-- the parts but for a last one that is empty
+abbrev pub without_empty_end : List (List ℕ) → List (List ℕ)
+without_empty_end [] = []
+without_empty_end ([] ∷ []) = []
+without_empty_end (part ∷ parts) = part ∷ without_empty_end parts
+
+-- the lines of a script: each is ended by LF, the last one by LF or by the end of the script
+abbrev pub lines_of : List ℕ → List (List ℕ)
+lines_of script = without_empty_end (parts_of LINE_FEED script)
+
+-- the value of a hexadecimal digit of either case
+abbrev pub digit_of : ℕ → Option ℕ
+digit_of b =
+    if nat_le 48 b && nat_le b 57 then Some (b - 48)
+    else (if nat_le 97 b && nat_le b 102 then Some (b - 87)
+    else (if nat_le 65 b && nat_le b 70 then Some (b - 55)
+    else None))
+
+-- the number that hexadecimal digits spell after an earlier number
+abbrev pub number_after : ℕ → List ℕ → Option ℕ
+number_after number [] = Some number
+number_after number (b ∷ bs) = option_and_then (λ digit. number_after (number * 16 + digit) bs) (digit_of b)
+
+-- the number that at least one and at most so many hexadecimal digits spell
+abbrev pub number_of : ℕ → List ℕ → Option ℕ
+number_of most word = if nat_lt 0 (length word) && nat_le (length word) most then number_after 0 word else None
+
+-- the size that a word names
+abbrev pub size_of : List ℕ → Option ℕ
+size_of word =
+    if bytes_eq word (codes "1") then Some 1
+    else (if bytes_eq word (codes "2") then Some 2
+    else (if bytes_eq word (codes "4") then Some 4
+    else (if bytes_eq word (codes "8") then Some 8
+    else None)))
+
+-- whether writes of this effect are in the grammar: those to CANCEL aren't yet
+abbrev pub is_supported_effect : Effect → Bool
+is_supported_effect (Cancel value) = false
+is_supported_effect _ = true
+
+-- a read of so many bytes at an offset, where it lies within the page
+abbrev pub read_event : ℕ → ℕ → Option Event
+read_event offset size =
+    if nat_le (offset + size) PAGE_SIZE
+    then Some (Access (record { offset = offset; size = size; write = None }))
+    else None
+
+-- a write of a value of so many bytes at an offset, where it lies within the page and its effect is in the grammar
+abbrev pub write_event : ℕ → ℕ → ℕ → Option Event
+write_event offset size value =
+    if nat_le (offset + size) PAGE_SIZE && is_supported_effect (effect offset size value)
+    then Some (Access (record { offset = offset; size = size; write = Some value }))
+    else None
+
+-- what the words after `work` ask for: there are none
+abbrev pub work_of : List (List ℕ) → Option Event
+work_of [] = Some Work
+work_of _ = None
+
+-- what the words after `r` ask for: offset and size
+abbrev pub read_of : List (List ℕ) → Option Event
+read_of (offset ∷ size ∷ []) =
+    option_and_then (λ at. option_and_then (λ n. read_event at n) (size_of size)) (number_of OFFSET_DIGITS offset)
+read_of _ = None
+
+-- what the words after `w` ask for: offset, size and value
+abbrev pub write_of : List (List ℕ) → Option Event
+write_of (offset ∷ size ∷ value ∷ []) =
+    option_and_then (λ at. option_and_then (λ n. option_and_then (λ v. write_event at n v) (number_of (BYTE_DIGITS * n) value)) (size_of size)) (number_of OFFSET_DIGITS offset)
+write_of _ = None
+
+-- what the words of a line ask for
+abbrev pub event_of_words : List (List ℕ) → Option Event
+event_of_words [] = None
+event_of_words (name ∷ words) =
+    if bytes_eq name (codes "work") then work_of words
+    else (if bytes_eq name (codes "r") then read_of words
+    else (if bytes_eq name (codes "w") then write_of words
+    else None))
+
+-- what a line asks for; `None` where it isn't in the grammar
+unfoldable pub event_of : List ℕ → Option Event
+event_of line = event_of_words (parts_of SPACE line)

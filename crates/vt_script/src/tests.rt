@@ -1,0 +1,204 @@
+ghost use Rattle.vt_script.specs.Replies.{IsPrintable};
+
+use super::*;
+use std::alloc::{AllocError, Global};
+use std::test::Fail;
+
+// Offset, size and value of the access that a line asks for.
+fn access_of(line: &[u8]) -> Option<(u32, u8, Option<u64>)> {
+    let Event::Access(access) = parse_line(line)? else {
+        return None;
+    };
+    Some((access.offset(), access.size(), access.write()))
+}
+
+#[test]
+fn accesses(rt: HostRuntime) {
+    let lines = [
+        (b"r 0 4".as_slice(), (0x0, 4, None)),
+        (b"r 30 4".as_slice(), (0x30, 4, None)),
+        (b"r 68 8".as_slice(), (0x68, 8, None)),
+        (b"r ffc 4".as_slice(), (0xffc, 4, None)),
+        (b"r FfF 1".as_slice(), (0xfff, 1, None)),
+        (b"r 000 2".as_slice(), (0, 2, None)),
+        (b"w 8 4 1".as_slice(), (8, 4, Some(1))),
+        (b"w 84 4 c00".as_slice(), (0x84, 4, Some(0xc00))),
+        (b"w 88 4 4401".as_slice(), (0x88, 4, Some(0x4401))),
+        (b"w 80 1 fF".as_slice(), (0x80, 1, Some(0xff))),
+        (b"w 80 1 00".as_slice(), (0x80, 1, Some(0))),
+        (
+            b"w ff8 8 0123456789aBcDeF".as_slice(),
+            (0xff8, 8, Some(0x0123_4567_89ab_cdef)),
+        ),
+        // At the place of CANCEL, but no write to it: its value, its size or its first byte is another.
+        (b"w 48 4 2".as_slice(), (0x48, 4, Some(2))),
+        (b"w 48 8 1".as_slice(), (0x48, 8, Some(1))),
+        (b"w 49 1 1".as_slice(), (0x49, 1, Some(1))),
+    ];
+    for (line, wanted) in lines {
+        assert!(rt; access_of(line) == Some(wanted), "at {line:?}");
+    }
+}
+
+#[test]
+fn work(rt: HostRuntime) {
+    assert!(rt; matches!(parse_line(b"work"), Some(Event::Work)));
+}
+
+#[test]
+fn not_in_the_grammar(rt: HostRuntime) {
+    let lines = [
+        b"".as_slice(),
+        b" ".as_slice(),
+        b"work ".as_slice(),
+        b" work".as_slice(),
+        b"work 1".as_slice(),
+        b"Work".as_slice(),
+        b"work\r".as_slice(),
+        b"r".as_slice(),
+        b"r 0".as_slice(),
+        b"r 0 ".as_slice(),
+        b"r 0 4 ".as_slice(),
+        b"r 0 4 1".as_slice(),
+        b"r  0 4".as_slice(),
+        b"r\t0 4".as_slice(),
+        b"R 0 4".as_slice(),
+        b"r 0000 1".as_slice(),
+        b"r  1".as_slice(),
+        b"r g 1".as_slice(),
+        b"r 0x1 1".as_slice(),
+        b"r +1 1".as_slice(),
+        b"r 0 3".as_slice(),
+        b"r 0 04".as_slice(),
+        b"r 0 16".as_slice(),
+        b"r ffd 4".as_slice(),
+        b"r fff 2".as_slice(),
+        b"w 8 4".as_slice(),
+        b"w 8 4 ".as_slice(),
+        b"w 8 4 1 ".as_slice(),
+        b"w 8 4 1 1".as_slice(),
+        b"w 80 1 100".as_slice(),
+        b"w 80 1 001".as_slice(),
+        b"w 80 8 00123456789abcdef".as_slice(),
+        b"w ffd 4 1".as_slice(),
+        // Writes to CANCEL.
+        b"w 48 4 1".as_slice(),
+        b"w 48 1 0".as_slice(),
+    ];
+    for line in lines {
+        assert!(rt; parse_line(line).is_none(), "at {line:?}");
+    }
+}
+
+#[test]
+fn lines(rt: HostRuntime) {
+    let mut rest = b"r 0 4\n\n work\nlast".as_slice();
+    for wanted in [
+        b"r 0 4".as_slice(),
+        b"".as_slice(),
+        b" work".as_slice(),
+        b"last".as_slice(),
+    ] {
+        assert!(rt; !rest.is_empty());
+        let (line, after) = first_line(rest);
+        assert_eq!(rt; line, wanted);
+        rest = after;
+    }
+    assert!(rt; rest.is_empty());
+    let (line, after) = first_line(b"work\n");
+    assert_eq!(rt; line, b"work".as_slice());
+    assert!(rt; after.is_empty());
+}
+
+fn prints(alloc: Global, reply: Reply, text: &[u8]) -> Result<bool, AllocError>
+    requires { IsPrintable reply }
+{
+    let mut printed = Vec::new(alloc);
+    print_reply(alloc, &reply, &mut printed)?;
+    Ok(printed.as_slice() == text)
+}
+
+#[test]
+fn values(rt: HostRuntime) -> Result<(), Fail> {
+    let alloc = rt.alloc();
+    assert!(rt;
+        prints(
+            alloc,
+            Reply::Value {
+                value: 0x81,
+                size: 4
+            },
+            b"00000081\n"
+        )?
+    );
+    assert!(rt;
+        prints(
+            alloc,
+            Reply::Value {
+                value: 0xfed4_0080,
+                size: 8
+            },
+            b"00000000fed40080\n"
+        )?
+    );
+    assert!(rt;
+        prints(
+            alloc,
+            Reply::Value {
+                value: 0xffff_ffff,
+                size: 4
+            },
+            b"ffffffff\n"
+        )?
+    );
+    assert!(rt;
+        prints(
+            alloc,
+            Reply::Value {
+                value: 0x9a,
+                size: 1
+            },
+            b"9a\n"
+        )?
+    );
+    assert!(rt;
+        prints(
+            alloc,
+            Reply::Value {
+                value: 0xbe0,
+                size: 2
+            },
+            b"0be0\n"
+        )?
+    );
+    assert!(rt;
+        prints(
+            alloc,
+            Reply::Value {
+                value: 0x0123_4567_89ab_cdef,
+                size: 8
+            },
+            b"0123456789abcdef\n"
+        )?
+    );
+    Ok(())
+}
+
+#[test]
+fn texts(rt: HostRuntime) -> Result<(), Fail> {
+    let alloc = rt.alloc();
+    assert!(rt; prints(alloc, Reply::Accepted, b"ok\n")?);
+    assert!(rt; prints(alloc, Reply::Idle, b"idle\n")?);
+    assert!(rt; prints(alloc, Reply::Claim(1), b"claim 1\n")?);
+    assert!(rt; prints(alloc, Reply::Sent(10), b"sent 10\n")?);
+    assert!(rt; prints(alloc, Reply::Exec(0), b"exec 0\n")?);
+    assert!(rt; prints(alloc, Reply::Done(999_999), b"done 999999\n")?);
+    assert!(rt;
+        prints(
+            alloc,
+            Reply::Cancelled(u64::MAX),
+            b"cancelled 18446744073709551615\n"
+        )?
+    );
+    Ok(())
+}
