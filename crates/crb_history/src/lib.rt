@@ -1,0 +1,14 @@
+//! The histories of one CRB device over one TPM: the words in which the programs' promises are stated.
+//!
+//! A history is a list of events, the latest first, from a base of values. What the guest is shown, which commands were
+//! started and what the TPM executed are found by looking back over it; nothing is kept. `Legal` says which histories
+//! one device over one TPM may have, and `IsRun` which replies to the lines of a script tell such a history.
+//!
+//! Most functions here do nothing: their contracts are laws of the definitions. [`command_of`] alone has work to do.
+#![tactic(auto)]
+
+mod command;
+mod laws;
+
+pub use command::command_of;
+pub use laws::{done_is_executed_once, lost_stays_lost, numbers_count_starts};
