@@ -1,0 +1,9 @@
+pub mod Phases
+pub mod Overwritten
+pub mod Held
+pub mod Jobs
+pub mod Writes
+pub mod Sessions
+pub mod Prefixes
+pub mod Endings
+pub mod Words

@@ -1,0 +1,4 @@
+pub mod Start
+pub mod Follows
+pub mod Run
+pub mod Loop

@@ -1,0 +1,35 @@
+//! Runs scripts of guest accesses and worker steps on one CRB device over one TPM, in one process.
+#![tactic(auto)]
+
+mod run;
+mod session;
+#[cfg(test)]
+mod tests;
+
+pub use run::run;
+use std::io::ErrorKind;
+use std::process::ExitCode;
+use vt_base::{Status, StdSink, StdSource};
+
+fn main(rt: HostRuntime) -> ExitCode {
+    let alloc = rt.alloc();
+    let mut words = Vec::new(alloc);
+    match std::env::args(&rt) {
+        Ok(args) => {
+            for word in args.skip(1) {
+                if words.push(word).is_err() {
+                    return ExitCode::from(Status::Memory.number());
+                }
+            }
+        }
+        Err(error) if error.kind() == ErrorKind::OutOfMemory => {
+            return ExitCode::from(Status::Memory.number());
+        }
+        // A word that isn't text is in no grammar, and neither is an empty list of words.
+        Err(_) => {}
+    }
+    let mut source = StdSource::new(rt.stdin());
+    let mut sink = StdSink::new(rt.stdout());
+    let status = run::run(alloc, &words, &mut source, &mut sink);
+    ExitCode::from(status.number())
+}

@@ -1,0 +1,151 @@
+use super::*;
+use std::alloc::{AllocError, Global};
+use std::test::*;
+use vt_base::{Bytes, MemSink, MemSource, Sink, Source};
+
+// How many bytes a sink takes that is to take all.
+const AMPLE: usize = 2_000_000;
+
+// What a run answers and writes, over a source and a sink whose calls of these numbers fail.
+fn ran(
+    alloc: Global,
+    words: &[&str],
+    script: &[u8],
+    read_fails: &[u64],
+    room: usize,
+    write_fails: &[u64],
+) -> Result<(Status, Vec<u8>), AllocError> {
+    let mut owned = Vec::new(alloc);
+    for word in words {
+        owned.push(String::from_str(alloc, word)?)?;
+    }
+    let bytes = Bytes::from_slice(alloc, script)?;
+    let mut source = MemSource::new(bytes, Vec::from_slice(alloc, read_fails)?);
+    let mut sink = MemSink::new(alloc, room, Vec::from_slice(alloc, write_fails)?)?;
+    let status = run(alloc, &owned, &mut source, &mut sink);
+    Ok((status, Vec::from_slice(alloc, sink.bytes())?))
+}
+
+fn replayed(alloc: Global, script: &[u8]) -> Result<(Status, Vec<u8>), AllocError> {
+    ran(alloc, &["replay"], script, &[], AMPLE, &[])
+}
+
+#[test]
+fn scripts_are_answered(rt: HostRuntime) -> Result<(), Fail> {
+    let cases = [
+        // Nothing is asked.
+        ("", Status::Ok, ""),
+        // The registers after a reset.
+        (
+            "r 0 4\nr 30 4\nr 34 4\nr 44 4\nr 58 4\nr 5c 4\nr 68 8\nr ffc 4\n",
+            Status::Ok,
+            "00000081\n00025811\n00001014\n00000002\n00000f80\nfed40080\n00000000fed40080\nffffffff\n",
+        ),
+        // A START without access is ignored.
+        (
+            "w 40 4 1\nw 80 4 180\nw 84 4 c00\nw 88 4 4401\nw 4c 4 1\nr 4c 4\nwork\n",
+            Status::Ok,
+            "ok\nok\nok\nok\nok\n00000000\nidle\n",
+        ),
+        // Reads across borders of registers, values without effect, access asked for and given back.
+        (
+            "r 42 4\nr 7e 4\nw 8 4 3\nr c 4\nw 8 1 1\nr 0 4\nr c 4\nw 8 4 2\nr 0 4\n",
+            Status::Ok,
+            "00020000\nffff0000\nok\n00000000\nok\n00000083\n00000001\nok\n00000081\n",
+        ),
+        // The buffer isn't written while idle, and is zeros once ready.
+        (
+            "w 80 4 1\nr 80 4\nw 40 4 1\nr 80 4\nr 44 4\n",
+            Status::Ok,
+            "ok\nffffffff\nok\n00000000\n00000000\n",
+        ),
+        // A command whose size field is wrong.
+        (
+            "w 8 4 1\nw 40 4 1\nw 80 4 180\nw 84 4 500\nw 88 4 4401\nw 4c 4 1\nwork\nwork\nwork\nwork\nr 80 4\nr 84 4\nr 88 4\n",
+            Status::Ok,
+            "ok\nok\nok\nok\nok\nok\nclaim 1\nsent 1\nexec 1\ndone 1\n00000180\n00000a00\n00004201\n",
+        ),
+        // The response isn't seen before the end of the execution, and the buffer is zeros after cmdReady.
+        (
+            "w 8 4 1\nw 40 4 1\nw 80 4 180\nw 84 4 c00\nw 88 4 4401\nw 4c 4 1\nwork\nwork\nwork\nr 80 4\nwork\nr 84 4\nw 40 4 1\nr 84 4",
+            Status::Ok,
+            "ok\nok\nok\nok\nok\nok\nclaim 1\nsent 1\nexec 1\nffffffff\ndone 1\n00000a00\nok\n00000000\n",
+        ),
+        // Lines that aren't in the grammar.
+        ("r 0 4\nx\n", Status::Script, "00000081\nbad line 2\n"),
+        ("r ffd 4\n", Status::Script, "bad line 1\n"),
+        ("work\n\nwork\n", Status::Script, "idle\nbad line 2\n"),
+        ("w 48 4 1\n", Status::Script, "bad line 1\n"),
+    ];
+    for (script, status, output) in cases {
+        let (answer, written) = replayed(rt.alloc(), script.as_bytes())?;
+        assert_eq!(rt; answer, status, "{script}");
+        assert_eq!(rt; written.as_slice(), output.as_bytes(), "{script}");
+    }
+    Ok(())
+}
+
+#[test]
+fn other_words_are_answered_by_the_usage(rt: HostRuntime) -> Result<(), Fail> {
+    let usage = b"usage: crbsim replay, drive, suspend, resume, check or bulk\n".as_slice();
+    let cases: [&[&str]; 4] = [&[], &["play"], &["replay", "replay"], &["Replay"]];
+    for words in cases {
+        let (status, written) = ran(rt.alloc(), words, b"work\n", &[], AMPLE, &[])?;
+        assert_eq!(rt; status, Status::Usage);
+        assert_eq!(rt; written.as_slice(), usage);
+    }
+    Ok(())
+}
+
+#[test]
+fn an_input_has_a_limit(rt: HostRuntime) -> Result<(), Fail> {
+    let mut input = Vec::new(rt.alloc());
+    input.resize(1_048_577, b'x')?;
+    let (status, written) = replayed(rt.alloc(), &input)?;
+    assert_eq!(rt; status, Status::Limit);
+    assert_eq!(rt; written.as_slice(), b"long input\n".as_slice());
+    input.pop();
+    let (status, written) = replayed(rt.alloc(), &input)?;
+    assert_eq!(rt; status, Status::Script);
+    assert_eq!(rt; written.as_slice(), b"bad line 1\n".as_slice());
+    Ok(())
+}
+
+#[test]
+fn faults_of_the_outside_are_told(rt: HostRuntime) -> Result<(), Fail> {
+    let alloc = rt.alloc();
+    // Reads 1 and 2 fail in turn: nothing is written.
+    for number in [1, 2] {
+        let (status, written) = ran(alloc, &["replay"], b"work\n", &[number], AMPLE, &[])?;
+        assert_eq!(rt; (status, written.len()), (Status::ReadFault, 0));
+    }
+    // The sink fails at once, or when its room is full.
+    let (status, written) = ran(alloc, &["replay"], b"work\nr 0 4\n", &[], AMPLE, &[1])?;
+    assert_eq!(rt; (status, written.len()), (Status::WriteFault, 0));
+    let (status, written) = ran(alloc, &["replay"], b"work\nr 0 4\n", &[], 7, &[])?;
+    assert_eq!(rt; status, Status::WriteFault);
+    assert_eq!(rt; written.as_slice(), b"idle\n00".as_slice());
+    let (status, written) = ran(alloc, &["play"], b"", &[], 5, &[])?;
+    assert_eq!(rt; status, Status::WriteFault);
+    assert_eq!(rt; written.as_slice(), b"usage".as_slice());
+    Ok(())
+}
+
+#[test]
+fn many_replies_are_written_in_parts(rt: HostRuntime) -> Result<(), Fail> {
+    let alloc = rt.alloc();
+    let mut script = Vec::new(alloc);
+    let mut output = Vec::new(alloc);
+    for _ in 0..20_000 {
+        script.extend_from_slice(b"work\n")?;
+        output.extend_from_slice(b"idle\n")?;
+    }
+    let (status, written) = replayed(alloc, &script)?;
+    assert_eq!(rt; status, Status::Ok);
+    assert!(rt; written == output);
+    // The second part can't be written.
+    let (status, written) = ran(alloc, &["replay"], &script, &[], AMPLE, &[2])?;
+    assert_eq!(rt; status, Status::WriteFault);
+    assert!(rt; output.starts_with(&written) && !written.is_empty());
+    Ok(())
+}
