@@ -3,11 +3,10 @@ use Rattle.std.specs.Prelude.{ℕ, zero, suc, ◌+◌, ◌-◌, Bool, ◌||◌, 
 use Rattle.vt_base.specs.Buffer.{zeros}
 use Rattle.crb_regs.specs.LittleEndian.{byte_of}
 use Rattle.crb_regs.specs.Access.{Access}
-use Rattle.crb_regs.specs.declared.registers.TheConstants.{DATA_BUFFER}
 use Rattle.crb_regs.specs.declared.effect.Effect.{Effect}
 use Rattle.crb_regs.specs.declared.effect.Effect.TheVariants.{Buffer, CmdReady, GoIdle, Start, Cancel}
-use Rattle.crb_machine.specs.declared.slot.Slot.{Slot}
-use Rattle.crb_machine.specs.declared.slot.Slot.TheVariants.{Home, Queued}
+use Rattle.crb_machine.specs.State.{Slot}
+use Rattle.crb_machine.specs.State.Slot.{Home, Queued}
 
 -- the bytes with the first `count` of other bytes written over them at a place
 abbrev pub overwritten : List ℕ → ℕ → (ℕ → ℕ) → ℕ → List ℕ
@@ -16,7 +15,7 @@ overwritten bytes at byte (suc count) = slice_set (overwritten bytes at byte cou
 
 -- the buffer and the job after an accepted write
 abbrev pub slot_after : Effect → Access → Bool → ℕ → Slot → Slot
-slot_after Buffer a cancel number (Home buf) = Home (overwritten buf (a.offset - DATA_BUFFER) (byte_of (unwrap_or a.write 0)) a.size)
+slot_after Buffer a cancel number (Home buf) = Home (overwritten buf (a.offset - 0x80) (byte_of (unwrap_or a.write 0)) a.size)
 slot_after CmdReady a cancel number (Home buf) = Home (zeros 3968)
 slot_after GoIdle a cancel number (Home buf) = Home (zeros 3968)
 slot_after Start a cancel number (Home buf) = Queued (record { number = number; cancelled = cancel; buf = buf })

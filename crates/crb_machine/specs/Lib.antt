@@ -2,3 +2,4 @@ pub mod Phases
 pub mod Content
 pub mod State
 pub mod Steps
+pub mod Over

@@ -27,11 +27,9 @@ next_phase Relinquish granted Lost = None
 next_phase Relinquish granted phase = Some phase
 next_phase Nothing granted phase = None
 
--- whether a write of this effect is accepted
 abbrev pub is_accepted : Effect → Bool → Phase → Bool
 is_accepted effect granted phase = is_some (next_phase effect granted phase)
 
--- the phase after a write of this effect, accepted or not
 abbrev pub phase_after : Effect → Bool → Phase → Phase
 phase_after effect granted phase = unwrap_or (next_phase effect granted phase) phase
 

@@ -1,10 +1,15 @@
--- The device as its callers see it.
-use Rattle.std.specs.Prelude.{◌≡◌, ℕ, Bool, true, false, not}
-use Rattle.crb_regs.specs.Registers.{is_executing}
-use Rattle.crb_regs.specs.declared.phase.Phase.{Phase}
+-- The device over a port that tells what stands in it. (Own definitions.)
+use Rattle.std.specs.Prelude.{ℕ, List, Bool, true, false}
 use Rattle.crb_regs.specs.declared.registers.Regs.{Regs}
-use Rattle.crb_machine.specs.declared.slot.Slot.{Slot}
-use Rattle.crb_machine.specs.declared.slot.Slot.TheVariants.{Home}
+use Rattle.crb_port.specs.declared.job.Job.{Job}
+use Rattle.crb_port.specs.declared.job.Answer.{Answer}
+
+-- where the buffer is: with the device, in a job that waits, out with a claimed job, or in an answer
+pub data Slot : Type 0 where
+  Home : List ℕ → Slot
+  Queued : Job → Slot
+  Claimed : Slot
+  Answered : Answer → Slot
 
 -- the registers, the number of the last job, and where the buffer is
 pub record DeviceState : Type 0 where
@@ -12,11 +17,7 @@ pub record DeviceState : Type 0 where
   pub number : ℕ
   pub slot : Slot
 
--- whether the device has its buffer
+-- whether the buffer is with the device
 abbrev pub is_home : Slot → Bool
 is_home (Home buf) = true
 is_home _ = false
-
--- the buffer is away exactly while a command is executed
-abbrev pub IsConsistent : Phase → Slot → Type 0
-IsConsistent phase slot = is_executing phase ≡ not (is_home slot)

@@ -1,26 +1,31 @@
 -- The steps of the device.
-use Rattle.std.specs.Prelude.{◌≡◌, ◌≢◌, ℕ, ◌+◌, ◌-◌, ◌%◌, ◌^◌, Bool, true, false, List, [], if◌then◌else◌, nat_lt, slice_index, Option, Some, None, unwrap_or}
+use Rattle.std.specs.Prelude.{◌≡◌, ◌≢◌, ℕ, ◌+◌, ◌-◌, ◌%◌, ◌^◌, Bool, true, false, List, [], if◌then◌else◌, nat_lt, slice_index, Option, Some, None, unwrap_or, Result, Ok, Err}
 use Rattle.vt_base.specs.Buffer.{zeros}
 use Rattle.crb_regs.specs.Access.{Access}
-use Rattle.crb_regs.specs.declared.registers.TheConstants.{DATA_BUFFER}
 use Rattle.crb_regs.specs.Effects.{effect}
 use Rattle.crb_regs.specs.Registers.{register_byte}
+use Rattle.crb_regs.specs.declared.registers.Regs.{Regs}
 use Rattle.crb_regs.specs.declared.phase.Phase.{Phase}
 use Rattle.crb_regs.specs.declared.phase.Phase.TheVariants.{Idle, Ready, Reception, Completion, Lost}
 use Rattle.crb_regs.specs.declared.effect.Effect.{Effect}
 use Rattle.crb_regs.specs.declared.effect.Effect.TheVariants.{Start}
 use Rattle.crb_machine.specs.Phases.{next_phase, granted_after, cancel_after}
-use Rattle.crb_machine.specs.State.{DeviceState}
+use Rattle.crb_machine.specs.State.{DeviceState, Slot}
 use Rattle.crb_machine.specs.Content.{slot_after}
-use Rattle.crb_machine.specs.declared.slot.Outcome.{Outcome}
-use Rattle.crb_machine.specs.declared.slot.Outcome.TheVariants.{Lost as EndedLost}
-use Rattle.crb_machine.specs.declared.slot.Job.{Job}
-use Rattle.crb_machine.specs.declared.slot.Slot.{Slot}
-use Rattle.crb_machine.specs.declared.slot.Slot.TheVariants.{Home, Queued, Claimed, Answered}
+use Rattle.crb_port.specs.declared.job.Outcome.{Outcome}
+use Rattle.crb_port.specs.declared.job.Outcome.TheVariants.{Lost as EndedLost}
+use Rattle.crb_port.specs.declared.job.Job.{Job}
+use Rattle.crb_port.specs.declared.job.Answer.{Answer}
+use Rattle.crb_machine.specs.declared.device.NotYet.{NotYet}
+use Rattle.crb_machine.specs.State.Slot.{Home, Queued, Claimed, Answered}
+
+-- the registers after a reset
+abbrev pub reset_regs : Regs
+reset_regs = record { granted = false; cancel = false; phase = Idle }
 
 -- a device after a reset, before its first job
 abbrev pub fresh_state : DeviceState
-fresh_state = record { regs = record { granted = false; cancel = false; phase = Idle }; number = 0; slot = Home (zeros 3968) }
+fresh_state = record { regs = reset_regs; number = 0; slot = Home (zeros 3968) }
 
 -- the phase in which an execution ends
 abbrev pub ended_phase : Outcome → Phase
@@ -32,7 +37,6 @@ abbrev pub collected_at : Slot → DeviceState → DeviceState
 collected_at (Answered answer) d = record d { regs = record d.regs { phase = ended_phase answer.outcome }; slot = Home answer.buf }
 collected_at _ d = d
 
--- a device once it took home the answer that stands, if there is one
 abbrev pub collected : DeviceState → DeviceState
 collected d = collected_at d.slot d
 
@@ -48,14 +52,17 @@ buffer_byte Reception held = held
 buffer_byte Completion held = held
 buffer_byte _ held = 0xFF
 
+-- the byte of the page that a guest reads, by the registers and the bytes of the buffer
+abbrev pub page_byte : Regs → List ℕ → ℕ → ℕ
+page_byte regs bytes at =
+    if nat_lt at 0x80
+    then register_byte regs at
+    else buffer_byte regs.phase (slice_index bytes (at - 0x80))
+
 -- the byte of the page that a guest reads
 abbrev pub device_byte : DeviceState → ℕ → ℕ
-device_byte d at =
-    if nat_lt at DATA_BUFFER
-    then register_byte d.regs at
-    else buffer_byte d.regs.phase (slice_index (content d.slot) (at - DATA_BUFFER))
+device_byte d = page_byte d.regs (content d.slot)
 
--- whether a write of this effect starts the command
 abbrev pub is_start : Effect → Bool
 is_start Start = true
 is_start _ = false
@@ -73,7 +80,6 @@ written_to (Some phase) e a d = record {
   slot = slot_after e a d.regs.cancel (number_after e d.number) d.slot;
 }
 
--- a device after a write
 abbrev pub written : DeviceState → Access → DeviceState
 written d a =
     let e = effect a.offset a.size (unwrap_or a.write 0) in
@@ -83,3 +89,32 @@ written d a =
 abbrev pub TakesJob : DeviceState → DeviceState → Option Job → Type 0
 TakesJob old new None = (new ≡ old) × ((job : Job) → old.slot ≢ Queued job)
 TakesJob old new (Some job) = (old.slot ≡ Queued job) × (new ≡ record old { slot = Claimed })
+
+-- the device after a reset, by its phase: one that is lost stays as it is
+abbrev pub reset_at : Phase → DeviceState → DeviceState
+reset_at Lost d = d
+reset_at _ d = record d { regs = reset_regs; slot = Home (zeros 3968) }
+
+-- the device after a reset of the guest, whose number is kept
+abbrev pub reset_of : DeviceState → DeviceState
+reset_of d = reset_at d.regs.phase d
+
+-- what a reset answers: the number of the job where it is claimed
+abbrev pub reset_reply_at : Slot → ℕ → Result Unit NotYet
+reset_reply_at Claimed number = Err (record { number = number })
+reset_reply_at _ number = Ok tt
+
+abbrev pub reset_reply : DeviceState → Result Unit NotYet
+reset_reply d = reset_reply_at d.slot d.number
+
+-- the device after a reset was asked for; a job that is claimed keeps it as it is
+abbrev pub after_reset_at : Slot → DeviceState → DeviceState
+after_reset_at Claimed d = d
+after_reset_at _ d = reset_of (collected d)
+
+abbrev pub after_reset : DeviceState → DeviceState
+after_reset d = after_reset_at d.slot d
+
+-- the device once the answer to its claimed job was posted
+abbrev pub answered : Answer → DeviceState → DeviceState
+answered answer d = record d { slot = Answered answer }

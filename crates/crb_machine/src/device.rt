@@ -1,191 +1,181 @@
 //! The device.
-ghost use Rattle.std.specs.Prelude.{true, false, ◌↔◌, ◌≡◌, ◌+◌, ◌*◌, ◌^◌, ◌<◌, ◌≤◌, IfOk, IsSome, IsNone};
+ghost use Rattle.std.specs.Prelude.{◌≡◌, ◌^◌, ◌<◌, true, Some, None, Ok, IfOk, IfSome, IsSome, IsSomeAnd, IsNone};
 ghost use Rattle.crb_regs.specs.LittleEndian.{number_at};
-ghost use Rattle.crb_machine.specs.Content.{slot_after};
-ghost use Rattle.crb_machine.specs.Steps.{fresh_state, collected, written, device_byte, TakesJob};
+ghost use Rattle.vt_base.specs.Buffer.{zeros};
+ghost use Rattle.crb_machine.specs.Steps.{reset_regs, fresh_state, collected, written, device_byte, after_reset, reset_reply, answered, TakesJob};
+ghost use Rattle.crb_machine.specs.Over.{IsSound, HasInHand, Settles, Writes, Resets, own_byte, state_of};
+ghost use Rattle.crb_port.specs.Calls.{KeepsWorker, Claims, Posts};
 
-use crate::phases::next_phase;
-use crate::slot::{Answer, Job, Outcome, Slot, overwrite};
-use crb_regs::{Access, DATA_BUFFER, Effect, PAGE_SIZE, Phase, Regs, decode};
+use crate::parts::DeviceParts;
+use crb_port::{Answer, Job, Meanings, Port, WorkPort};
+use crb_regs::{Access, Phase, Regs};
 use std::alloc::{AllocError, Global};
 use std::marker::Model;
-use std::mem;
 use vt_base::Buf;
 
-/// The device: its registers, the number of the last job, and where its buffer is.
+/// The job of this number is claimed, so that its buffer can't come home yet.
+#[derive(Clone, Copy, Debug, PartialEq, Eq)]
+pub struct NotYet {
+    pub number: u64,
+}
+
+/// The device over its end of a port.
 #[derive(Drop)]
-pub struct Device {
-    regs: Regs,
-    number: u64,
-    slot: Slot,
+pub struct Device<P: Port> {
+    parts: DeviceParts<P>,
 }
 
-impl Model for Device {
-    ghost use Rattle.crb_machine.specs.State.{DeviceState, IsConsistent};
+impl<P: Port> Model for Device<P> {
+    ghost use Rattle.crb_machine.specs.Over.{IsSound};
+    ghost use Rattle.crb_machine.specs.declared.parts.DeviceParts.{DeviceParts};
 
-    ghost Value = { DeviceState };
+    ghost Value = { DeviceParts P };
 
-    ghost view = { λ d. record { regs = d.regs; number = d.number; slot = d.slot } };
+    ghost view = { λ d. d.parts };
 
-    ghost invariant = { λ d. IsConsistent d.regs.phase d.slot };
+    ghost invariant = { λ d. IsSound P.known d.parts };
 }
 
-// What an accepted write of this effect does to the buffer and to the job.
-fn act(slot: Slot, effect: Effect, a: &Access, cancel: bool, number: u64) -> Slot
-    requires write { IsSome a.now.write }
-    requires in_buffer { effect ≡ Effect.Buffer → DATA_BUFFER ≤ a.now.offset }
-    ensures { result ≡ slot_after effect a.now cancel number slot }
-{
-    match slot {
-        Slot::Home(mut buf) => match effect {
-            Effect::Buffer => {
-                let at = a.offset() - DATA_BUFFER;
-                let value = a.write().unwrap_or(0);
-                overwrite(&mut buf, at as usize, a.size(), value);
-                Slot::Home(buf)
-            }
-            Effect::CmdReady | Effect::GoIdle => {
-                buf.clear();
-                Slot::Home(buf)
-            }
-            Effect::Start => Slot::Queued(Job {
-                number,
-                cancelled: cancel,
-                buf,
-            }),
-            _ => Slot::Home(buf),
-        },
-        Slot::Queued(mut job) => {
-            if let Effect::Cancel(value) = effect {
-                job.cancelled = job.cancelled || value;
-            }
-            Slot::Queued(job)
-        }
-        other => other,
-    }
-}
+impl<P: Port + Drop> Device<P> {
+    /// A device after a reset, with number 0.
+    pub fn new(alloc: Global, port: P) -> Result<Device<P>, AllocError>
+        requires free { (P.known port).is_free ≡ true }
 
-impl Device {
-    /// A device after a reset, before its first job: the number of the last job is 0. An `Err` is want of memory for
-    /// the buffer; no other call takes memory.
-    pub fn new(alloc: Global) -> Result<Device, AllocError>
-        ensures { IfOk result (λ d. d ≡ fresh_state) }
+        ensures fresh { IfOk result (λ d. d ≡ record { regs = reset_regs; number = 0; home = Some (zeros 3968); port = port }) }
+        ensures sound { IfOk result (IsSound P.known) }
+        ensures hand { IfOk result (HasInHand P.known) }
+
+        // Over a port that tells its state.
+        ensures told { IfSome (P.known port).state (λ _. IfOk result (λ d. state_of P.known d ≡ Some fresh_state)) }
     {
         let buf = Buf::new(alloc)?;
         Ok(Device {
-            regs: Regs::reset(),
-            number: 0,
-            slot: Slot::Home(buf),
+            parts: DeviceParts {
+                regs: Regs::reset(),
+                number: 0,
+                home: Some(buf),
+                port,
+            },
         })
     }
+}
 
-    // Takes home an answer that stands. `Claimed` holds the slot's place while its content is looked at.
-    fn collect(&mut self)
-        ensures { self.new ≡ collected self.old }
-    {
-        match mem::replace(&mut self.slot, Slot::Claimed) {
-            Slot::Answered(answer) => {
-                self.regs.phase = match answer.outcome {
-                    Outcome::Lost => Phase::Lost,
-                    _ => Phase::Completion,
-                };
-                self.slot = Slot::Home(answer.buf);
-            }
-            other => self.slot = other,
-        }
-    }
-
-    // The byte of the page at an offset.
-    fn byte(&self, offset: u32) -> u8
-        requires { offset < PAGE_SIZE }
-        ensures { result ≡ device_byte self.now offset }
-    {
-        if offset < DATA_BUFFER {
-            return self.regs.byte(offset);
-        }
-        match self.regs.phase {
-            Phase::Ready | Phase::Reception | Phase::Completion => match &self.slot {
-                Slot::Home(buf) => buf.get((offset - DATA_BUFFER) as usize),
-                _ => 0xFF,
-            },
-            _ => 0xFF,
-        }
-    }
-
-    // The little-endian number of so many bytes.
-    fn number_at(&self, offset: u32, size: u8) -> u64
-        requires size { size ≤ 8 }
-        requires place { offset + size ≤ PAGE_SIZE }
-        ensures value { result ≡ number_at (device_byte self.now) offset size }
-        ensures below { result < 256 ^ size }
-    {
-        if size == 0 {
-            return 0;
-        }
-        let rest = self.number_at(offset + 1, size - 1);
-        u64::from(self.byte(offset)) + 256 * rest
-    }
-
+impl<P: Port> Device<P> {
     /// A read of the guest: an answer that stands is taken home, and the little-endian number of the bytes of the
     /// page is given, each byte by itself.
     pub fn read(&mut self, a: &Access) -> u64
         requires { IsNone a.now.write }
-        ensures value { result ≡ number_at (device_byte (collected self.old)) a.now.offset a.now.size }
+
+        ensures settles { Settles P.known self.old self.new }
+        ensures worker { KeepsWorker (P.known self.old.port) (P.known self.new.port) }
+        ensures value { result ≡ number_at (own_byte self.new) a.now.offset a.now.size }
         ensures below { result < 256 ^ a.now.size }
-        ensures after { self.new ≡ collected self.old }
+        ensures sound { IsSound P.known self.new }
+        ensures hand { HasInHand P.known self.new }
+        ensures rest { P.rest self.new.port ≡ P.rest self.old.port }
+
+        // Over a port that tells its state.
+        ensures told { IfSome (state_of P.known self.old) (λ d. state_of P.known self.new ≡ Some (collected d)) }
+        ensures told_value { IfSome (state_of P.known self.old) (λ d. result ≡ number_at (device_byte (collected d)) a.now.offset a.now.size) }
     {
-        self.collect();
-        self.number_at(a.offset(), a.size())
+        self.parts.settle();
+        self.parts.number_at(a.offset(), a.size())
     }
 
     /// A write of the guest: an answer that stands is taken home, and then the phase table says what is done.
     pub fn write(&mut self, a: &Access)
         requires { IsSome a.now.write }
-        ensures { self.new ≡ written (collected self.old) a.now }
+
+        ensures writes { Writes P.known self.old a.now self.new }
+        ensures worker { KeepsWorker (P.known self.old.port) (P.known self.new.port) }
+        ensures sound { IsSound P.known self.new }
+        ensures hand { HasInHand P.known self.new }
+        ensures rest { P.rest self.new.port ≡ P.rest self.old.port }
+
+        // Over a port that tells its state.
+        ensures told { IfSome (state_of P.known self.old) (λ d. state_of P.known self.new ≡ Some (written (collected d) a.now)) }
     {
-        self.collect();
-        let effect = decode(a);
-        let Some(phase) = next_phase(effect, self.regs.granted, self.regs.phase) else {
-            return;
-        };
-        let number = match effect {
-            Effect::Start => self.number.wrapping_add(1),
-            _ => self.number,
-        };
-        let slot = mem::replace(&mut self.slot, Slot::Claimed);
-        self.slot = act(slot, effect, a, self.regs.cancel, number);
-        self.number = number;
-        self.regs.phase = phase;
-        match effect {
-            Effect::Request => self.regs.granted = true,
-            Effect::Relinquish => self.regs.granted = false,
-            Effect::Cancel(value) => self.regs.cancel = value,
-            _ => {}
-        }
+        self.parts.settle();
+        self.parts.write(a);
     }
 
-    /// Claims the job that waits. `None` comes exactly where no job waits.
-    pub fn claim(&mut self) -> Option<Job>
-        ensures { TakesJob self.old self.new result }
+    /// A reset of the guest: a job that nobody claimed, or an answer that stands, is taken home, and the registers and the
+    /// buffer get the reset values. The number is kept. A device that is lost, or is so once the answer is home, stays
+    /// lost.
+    pub fn reset(&mut self) -> Result<(), NotYet>
+        ensures resets { Resets P.known self.old result self.new }
+        ensures worker { KeepsWorker (P.known self.old.port) (P.known self.new.port) }
+        ensures lost { self.old.regs.phase ≡ Phase.Lost → (result ≡ Ok tt) × (self.new ≡ self.old) }
+        ensures sound { IsSound P.known self.new }
+        ensures hand { HasInHand P.known self.new }
+        ensures rest { P.rest self.new.port ≡ P.rest self.old.port }
+
+        // Over a port that tells its state.
+        ensures told { IfSome (state_of P.known self.old) (λ d. state_of P.known self.new ≡ Some (after_reset d)) }
+        ensures told_result { IfSome (state_of P.known self.old) (λ d. result ≡ reset_reply d) }
     {
-        match mem::replace(&mut self.slot, Slot::Claimed) {
-            Slot::Queued(job) => Some(job),
-            other => {
-                self.slot = other;
-                None
-            }
-        }
+        self.parts.reset()
     }
 
-    /// Posts the answer to the claimed job. The guest sees it at its next access.
-    pub fn post(&mut self, answer: Answer)
-        requires claimed { self.old.slot ≡ Slot.Claimed }
-        requires number { answer.number ≡ self.old.number }
-        ensures { self.new ≡ record self.old { slot = Slot.Answered answer } }
+    /// The phase that the registers show. An answer that stands isn't seen until the next access.
+    pub fn phase(&self) -> Phase
+        ensures { result ≡ self.now.regs.phase }
     {
-        self.slot = Slot::Answered(answer);
+        self.parts.regs.phase
+    }
+
+    /// The number of the last job, 0 before the first.
+    pub fn number(&self) -> u64
+        ensures { result ≡ self.now.number }
+    {
+        self.parts.number
     }
 }
 
-#[cfg(test)]
-mod tests;
+impl<P: Port> Meanings for Device<P> {
+    ghost use Rattle.crb_machine.specs.Over.{OwnParts, own_parts};
+
+    ghost known = { λ d. P.known d.port };
+
+    ghost Rest = { OwnParts × P.Rest };
+
+    ghost rest = { λ d. (own_parts d, P.rest d.port) };
+
+    ghost tells = { λ d. P.tells d.port };
+
+    ghost exact = { λ d. P.exact d.port };
+}
+
+impl<P: Port + WorkPort> WorkPort for Device<P> {
+    /// Claims the job that waits at the device's port.
+    fn claim(&mut self) -> Option<Job>
+        requires empty_hand { (P.known self.old.port).in_hand ≡ None }
+
+        ensures claims { Claims (P.known self.old.port) result (P.known self.new.port) }
+        ensures own { self.new ≡ record self.old { port = self.new.port } }
+        ensures sound { IsSound P.known self.new }
+        ensures hand { HasInHand P.known self.new }
+        ensures rest { P.rest self.new.port ≡ P.rest self.old.port }
+
+        // Over a port that tells its state.
+        ensures told { IfSome (state_of P.known self.old) (λ d. IsSomeAnd (state_of P.known self.new) (λ e. TakesJob d e result)) }
+    {
+        self.parts.port.claim()
+    }
+
+    /// Posts the answer to the claimed job at the device's port. The guest sees it at its next access.
+    fn post(&mut self, answer: Answer)
+        requires in_hand { (P.known self.old.port).in_hand ≡ Some answer.number }
+
+        ensures posts { Posts (P.known self.old.port) answer (P.known self.new.port) }
+        ensures own { self.new ≡ record self.old { port = self.new.port } }
+        ensures sound { IsSound P.known self.new }
+        ensures hand { HasInHand P.known self.new }
+        ensures rest { P.rest self.new.port ≡ P.rest self.old.port }
+
+        // Over a port that tells its state.
+        ensures told { IfSome (state_of P.known self.old) (λ d. state_of P.known self.new ≡ Some (answered answer d)) }
+    {
+        self.parts.port.post(answer);
+    }
+}

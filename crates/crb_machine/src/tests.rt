@@ -1,8 +1,10 @@
 use super::*;
-use std::test::Fail;
-
-// How many bytes the buffer has.
-const BUFFER_LENGTH: usize = 3968;
+use crb_port::{Answer, Job, Outcome, PlainPort, WorkPort};
+use crb_regs::{Access, Phase};
+use std::alloc::{AllocError, Global};
+use std::marker::Model;
+use std::test::*;
+use vt_base::BUFFER_LENGTH;
 
 // What is done to a device, and what it shows.
 #[derive(Clone, Copy)]
@@ -11,6 +13,10 @@ enum Step {
     Read(u32, u8, u64),
     // Offset, size, and the value that is written.
     Write(u32, u8, u64),
+    // A reset, and the number of the job that keeps it from being done.
+    Reset(Option<u64>),
+    // The phase and the number of the last job.
+    Shows(Phase, u64),
     // The number of the claimed job, and whether it is cancelled.
     Claim(u64, bool),
     // No job waits.
@@ -19,16 +25,32 @@ enum Step {
     Answer(Outcome, &'static [u8]),
 }
 
-use Step::{Claim, NoJob, Read, Write};
+use Step::{Claim, NoJob, Read, Reset, Shows, Write};
 
-// A device and the job that is claimed.
+// A device over a plain port, and the job that is claimed there.
 #[derive(Drop)]
 struct Bench {
-    device: Device,
+    device: Device<PlainPort>,
     job: Option<Job>,
 }
 
+impl Model for Bench {
+    ghost use Rattle.std.specs.Prelude.{◌≡◌, option_map};
+    ghost use Rattle.crb_port.specs.Known.{hand_of};
+
+    ghost Value = { Unit {0} };
+
+    ghost view = { λ _. tt };
+
+    ghost invariant = { λ b. hand_of b.device.port ≡ option_map (λ job. job.number) b.job };
+}
+
 impl Bench {
+    fn new(alloc: Global) -> Result<Bench, AllocError> {
+        let device = Device::new(alloc, PlainPort::new())?;
+        Ok(Bench { device, job: None })
+    }
+
     // Does a step; false where it can't be done, or the device shows something else.
     fn does(&mut self, step: Step) -> bool {
         match step {
@@ -43,16 +65,31 @@ impl Bench {
                 }
                 None => false,
             },
+            Reset(claimed) => self.device.reset().err().map(|e| e.number) == claimed,
+            Shows(phase, number) => {
+                self.device.phase() == phase && self.device.number() == number
+            }
             Claim(number, cancelled) => {
-                self.job = self.device.claim();
+                self.claims();
                 matches!(&self.job, Some(job) if job.number == number && job.cancelled == cancelled)
             }
-            NoJob => self.device.claim().is_none(),
+            NoJob => self.job.is_none() && !self.claims(),
             Step::Answer(outcome, response) => self.answers(outcome, response),
         }
     }
 
+    // Claims a job, where none is claimed; whether one is claimed then.
+    fn claims(&mut self) -> bool {
+        if self.job.is_none() {
+            self.job = self.device.claim();
+        }
+        self.job.is_some()
+    }
+
     fn answers(&mut self, outcome: Outcome, response: &[u8]) -> bool {
+        if response.len() > BUFFER_LENGTH {
+            return false;
+        }
         let Some(
             Job {
                 number,
@@ -63,13 +100,6 @@ impl Bench {
         else {
             return false;
         };
-        let device = &self.device;
-        if response.len() > BUFFER_LENGTH
-            || !matches!(device.slot, Slot::Claimed)
-            || number != device.number
-        {
-            return false;
-        }
         buf.hold(response);
         self.device.post(Answer {
             number,
@@ -82,8 +112,7 @@ impl Bench {
 
 // Does some scripts on a device after a reset. The first step that isn't as it is to be, by script and place.
 fn first_wrong(alloc: Global, scripts: &[&[Step]]) -> Result<Option<(usize, usize)>, AllocError> {
-    let device = Device::new(alloc)?;
-    let mut bench = Bench { device, job: None };
+    let mut bench = Bench::new(alloc)?;
     for (script, steps) in scripts.iter().enumerate() {
         for (place, step) in steps.iter().enumerate() {
             if !bench.does(*step) {
@@ -106,6 +135,18 @@ const STARTUP: [Step; 6] = [
 
 // A response without parameters.
 const SUCCESS: [u8; 10] = [0x80, 1, 0, 0, 0, 10, 0, 0, 0, 0];
+
+// What a device shows after a reset: no access, CANCEL clear, idle, and a buffer of zeros.
+const AS_RESET: [Step; 8] = [
+    Read(0x00, 4, 0x81),
+    Read(0x44, 4, 2),
+    Read(0x48, 4, 0),
+    Read(0x4C, 4, 0),
+    Read(0x80, 4, 0xFFFF_FFFF),
+    NoJob,
+    Write(0x40, 4, 1),
+    Read(0x80, 8, 0),
+];
 
 #[test]
 fn reads_after_a_reset(rt: HostRuntime) -> Result<(), Fail> {
@@ -189,7 +230,6 @@ fn whole_command(rt: HostRuntime) -> Result<(), Fail> {
         Read(0x4C, 4, 1),
         Read(0x80, 4, 0xFFFF_FFFF),
         Claim(1, false),
-        NoJob,
         // No write is taken while the command is executed, and giving access back leaves the command alone.
         Write(0x80, 4, 5),
         Write(0x40, 4, 1),
@@ -221,12 +261,12 @@ fn whole_command(rt: HostRuntime) -> Result<(), Fail> {
 
 #[test]
 fn job_holds_the_command(rt: HostRuntime) -> Result<(), Fail> {
-    let device = Device::new(rt.alloc())?;
-    let mut bench = Bench { device, job: None };
+    let mut bench = Bench::new(rt.alloc())?;
     for step in STARTUP {
         assert!(rt; bench.does(step));
     }
-    let job = bench.device.claim().ok_or("no job")?;
+    assert!(rt; bench.claims());
+    let job = bench.job.as_ref().ok_or("no job")?;
     let command = [0x80, 1, 0, 0, 0, 12, 0, 0, 1, 0x44, 0, 0, 0];
     for (place, wanted) in command.iter().enumerate() {
         assert_eq!(rt; job.buf.get(place), *wanted, "at {place}");
@@ -287,6 +327,85 @@ fn cancel(rt: HostRuntime) -> Result<(), Fail> {
     assert_eq!(rt; first_wrong(alloc, &[&set, &STARTUP, &cancelled])?, None);
     assert_eq!(rt;
         first_wrong(alloc, &[&set, &clear, &STARTUP, &not_cancelled])?,
+        None
+    );
+    Ok(())
+}
+
+#[test]
+fn reset_in_each_phase(rt: HostRuntime) -> Result<(), Fail> {
+    let alloc = rt.alloc();
+    let reset = [Reset(None), Shows(Phase::Idle, 0)];
+    let reset_after_one = [Reset(None), Shows(Phase::Idle, 1)];
+    let answered = [Claim(1, false), Step::Answer(Outcome::Done, &SUCCESS)];
+    // Idle, Ready and Reception.
+    for length in [1, 2, 5] {
+        assert_eq!(rt;
+            first_wrong(alloc, &[&STARTUP[..length], &reset, &AS_RESET])?,
+            None
+        );
+    }
+    // A job that waits, an answer that stands, and one that was seen.
+    let seen = [Read(0x4C, 4, 0), Shows(Phase::Completion, 1)];
+    assert_eq!(rt;
+        first_wrong(alloc, &[&STARTUP, &reset_after_one, &AS_RESET])?,
+        None
+    );
+    assert_eq!(rt;
+        first_wrong(alloc, &[&STARTUP, &answered, &reset_after_one, &AS_RESET])?,
+        None
+    );
+    assert_eq!(rt;
+        first_wrong(
+            alloc,
+            &[&STARTUP, &answered, &seen, &reset_after_one, &AS_RESET]
+        )?,
+        None
+    );
+    Ok(())
+}
+
+#[test]
+fn reset_of_a_claimed_job(rt: HostRuntime) -> Result<(), Fail> {
+    let steps = [
+        Claim(1, false),
+        Reset(Some(1)),
+        Shows(Phase::Execution, 1),
+        Read(0x00, 4, 0x83),
+        Step::Answer(Outcome::Done, &SUCCESS),
+        Read(0x80, 4, 0x180),
+        Reset(None),
+    ];
+    let next = [Claim(2, false)];
+    assert_eq!(rt;
+        first_wrong(
+            rt.alloc(),
+            &[
+                &STARTUP,
+                &steps,
+                &AS_RESET,
+                &STARTUP[..1],
+                &STARTUP[2..],
+                &next
+            ]
+        )?,
+        None
+    );
+    Ok(())
+}
+
+#[test]
+fn reset_of_a_lost_device(rt: HostRuntime) -> Result<(), Fail> {
+    let lost = [Claim(1, false), Step::Answer(Outcome::Lost, &[])];
+    let seen = [Read(0x44, 4, 1), Shows(Phase::Lost, 1)];
+    // The answer stands, or was seen.
+    let reset = [Reset(None), Shows(Phase::Lost, 1), Read(0x00, 4, 0x83)];
+    assert_eq!(rt;
+        first_wrong(rt.alloc(), &[&STARTUP, &lost, &reset, &seen])?,
+        None
+    );
+    assert_eq!(rt;
+        first_wrong(rt.alloc(), &[&STARTUP, &lost, &seen, &reset])?,
         None
     );
     Ok(())

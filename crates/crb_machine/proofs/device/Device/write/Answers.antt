@@ -1,0 +1,4 @@
+use Rattle.crb_machine.proofs.device.Device.write.Goals as goal
+
+pub returns-clause-writes : goal.returns-clause-writes
+returns-clause-writes g c = rw (← c.self.view_is) (c.settle.new.self, c.settle.ensures.settles, c.write.ensures.writes)
