@@ -1,0 +1,5 @@
+pub mod Accesses
+pub mod Bits
+pub mod Bus
+pub mod Calls
+pub mod Sizes

@@ -1,0 +1,23 @@
+//! A polling driver of the Command Response Buffer: it sends a command over any [`Bus`] and reads the response.
+//!
+//! [`Driver::call`] does a whole command. [`Driver::start`], [`Driver::poll`] and [`Driver::finish`] are its three parts,
+//! for a caller that does other work while the TPM is busy. Each tells by its contract which accesses it made, in which
+//! order and with which values; what an access does is told by the bus. The driver keeps nothing between two calls and
+//! takes no memory.
+#![tactic(auto)]
+
+mod access;
+mod bus;
+mod driver;
+mod fault;
+mod registers;
+mod sizes;
+#[cfg(test)]
+mod tests;
+
+pub use bus::Bus;
+pub use driver::Driver;
+pub use fault::DriverFault;
+pub use registers::{
+    CMD_READY, GO_IDLE, GRANTED, NO_CANCEL, RELINQUISH, REQUEST_ACCESS, START, TPM_IDLE, TPM_STS,
+};
