@@ -5,7 +5,7 @@ use lib.Chars.{codes}
 use Rattle.crb_regs.specs.Access.{IsAccessSize}
 use Rattle.vt_script.specs.declared.parts.TheConstants.{LINE_FEED}
 use Rattle.vt_script.specs.declared.reply.Reply.{Reply}
-use Rattle.vt_script.specs.declared.reply.Reply.TheVariants.{Value, Accepted, Idle, Claim, Sent, Exec, Done, Cancelled}
+use Rattle.vt_script.specs.declared.reply.Reply.TheVariants.{Value, Accepted, Idle, Claim, Sent, Exec, Done, Cancelled, NotYet, Reset}
 
 -- the lower-case hexadecimal digit of a number below 16
 abbrev pub hex_digit : ℕ → ℕ
@@ -34,6 +34,8 @@ reply_text (Sent number) = numbered (codes "sent ") number
 reply_text (Exec number) = numbered (codes "exec ") number
 reply_text (Done number) = numbered (codes "done ") number
 reply_text (Cancelled number) = numbered (codes "cancelled ") number
+reply_text NotYet = ended (codes "not yet")
+reply_text Reset = ended (codes "reset")
 
 -- a value that was read has 1, 2, 4 or 8 bytes and fits them
 abbrev pub IsPrintable : Reply → Type 0

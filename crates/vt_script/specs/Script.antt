@@ -1,16 +1,13 @@
 -- The lines of a script (own).
-use Rattle.std.specs.Prelude.{ℕ, ◌+◌, ◌-◌, ◌*◌, ◌&&◌, ◌==◌, nat_lt, nat_le, if◌then◌else◌, Bool, true, false, List, [], ◌∷◌, length, Option, Some, None, option_and_then}
+use Rattle.std.specs.Prelude.{ℕ, ◌+◌, ◌-◌, ◌*◌, ◌&&◌, ◌==◌, nat_lt, nat_le, if◌then◌else◌, List, [], ◌∷◌, length, Option, Some, None, option_and_then}
 use Rattle.std.specs.List.{slice_split}
 use Rattle.std.specs.Str.{bytes_eq}
 use lib.Chars.{codes}
 use Rattle.crb_regs.specs.declared.access.TheConstants.{PAGE_SIZE}
-use Rattle.crb_regs.specs.declared.effect.Effect.{Effect}
-use Rattle.crb_regs.specs.declared.effect.Effect.TheVariants.{Cancel}
-use Rattle.crb_regs.specs.Effects.{effect}
-use Rattle.vt_script.specs.declared.parts.TheConstants.{LINE_FEED}
-use Rattle.vt_script.specs.declared.event.TheConstants.{SPACE, OFFSET_DIGITS, BYTE_DIGITS}
+use Rattle.vt_script.specs.declared.parts.TheConstants.{SPACE, LINE_FEED}
+use Rattle.vt_script.specs.declared.event.TheConstants.{OFFSET_DIGITS, BYTE_DIGITS}
 use Rattle.vt_script.specs.declared.event.Event.{Event}
-use Rattle.vt_script.specs.declared.event.Event.TheVariants.{Access, Work}
+use Rattle.vt_script.specs.declared.event.Event.TheVariants.{Access, Work, Reset}
 
 -- the parts between separators; there is one more of them than separators
 abbrev pub parts_of : ℕ → List ℕ → List (List ℕ)
@@ -52,11 +49,6 @@ size_of word =
     else (if bytes_eq word (codes "8") then Some 8
     else None)))
 
--- whether writes of this effect are in the grammar: those to CANCEL aren't yet
-abbrev pub is_supported_effect : Effect → Bool
-is_supported_effect (Cancel value) = false
-is_supported_effect _ = true
-
 -- a read of so many bytes at an offset, where it lies within the page
 abbrev pub read_event : ℕ → ℕ → Option Event
 read_event offset size =
@@ -64,17 +56,12 @@ read_event offset size =
     then Some (Access (record { offset = offset; size = size; write = None }))
     else None
 
--- a write of a value of so many bytes at an offset, where it lies within the page and its effect is in the grammar
+-- a write of a value of so many bytes at an offset, where it lies within the page
 abbrev pub write_event : ℕ → ℕ → ℕ → Option Event
 write_event offset size value =
-    if nat_le (offset + size) PAGE_SIZE && is_supported_effect (effect offset size value)
+    if nat_le (offset + size) PAGE_SIZE
     then Some (Access (record { offset = offset; size = size; write = Some value }))
     else None
-
--- what the words after `work` ask for: there are none
-abbrev pub work_of : List (List ℕ) → Option Event
-work_of [] = Some Work
-work_of _ = None
 
 -- what the words after `r` ask for: offset and size
 abbrev pub read_of : List (List ℕ) → Option Event
@@ -88,14 +75,25 @@ write_of (offset ∷ size ∷ value ∷ []) =
     option_and_then (λ at. option_and_then (λ n. option_and_then (λ v. write_event at n v) (number_of (BYTE_DIGITS * n) value)) (size_of size)) (number_of OFFSET_DIGITS offset)
 write_of _ = None
 
+-- what a line of one word asks for
+abbrev pub word_event : List ℕ → Option Event
+word_event word =
+    if bytes_eq word (codes "work") then Some Work
+    else (if bytes_eq word (codes "reset") then Some Reset
+    else None)
+
+-- what a line of a name and more words asks for
+abbrev pub access_of : List ℕ → List (List ℕ) → Option Event
+access_of name words =
+    if bytes_eq name (codes "r") then read_of words
+    else (if bytes_eq name (codes "w") then write_of words
+    else None)
+
 -- what the words of a line ask for
 abbrev pub event_of_words : List (List ℕ) → Option Event
 event_of_words [] = None
-event_of_words (name ∷ words) =
-    if bytes_eq name (codes "work") then work_of words
-    else (if bytes_eq name (codes "r") then read_of words
-    else (if bytes_eq name (codes "w") then write_of words
-    else None))
+event_of_words (word ∷ []) = word_event word
+event_of_words (name ∷ first ∷ words) = access_of name (first ∷ words)
 
 -- what a line asks for; `None` where it isn't in the grammar
 unfoldable pub event_of : List ℕ → Option Event

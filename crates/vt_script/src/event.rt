@@ -1,14 +1,11 @@
 //! What a line of a script asks for.
 ghost use Rattle.std.specs.Prelude.{◌≡◌, ◌*◌, ◌^◌, ◌<◌, ◌≤◌, IfSome};
 ghost use Rattle.crb_regs.specs.Access.{IsAccessSize};
-ghost use Rattle.vt_script.specs.Script.{digit_of, number_of, size_of, read_event, write_event, is_supported_effect};
-ghost use Rattle.vt_script.specs.Script.{parts_of, read_of, write_of, event_of};
+ghost use Rattle.vt_script.specs.Script.{digit_of, number_of, size_of, read_event, write_event};
+ghost use Rattle.vt_script.specs.Script.{parts_of, read_of, write_of, word_event, access_of, event_of};
 
-use crate::parts::first_part;
-use crb_regs::{Access, Effect, decode};
-
-/// Stands between two words of a line.
-const SPACE: u8 = b' ';
+use crate::parts::{SPACE, first_part};
+use crb_regs::Access;
 
 /// How many digits an offset has at most.
 const OFFSET_DIGITS: usize = 3;
@@ -23,6 +20,8 @@ pub enum Event {
     Access(Access),
     /// A step of the worker.
     Work,
+    /// A reset of the device.
+    Reset,
 }
 
 // The value of a hexadecimal digit of either case.
@@ -90,23 +89,23 @@ fn guest_read(offset: u32, size: u8) -> Option<Event>
     Some(Event::Access(access))
 }
 
-// Whether writes of this effect are in the grammar: those to CANCEL aren't yet.
-fn is_supported(effect: Effect) -> bool
-    ensures { result ≡ is_supported_effect effect }
-{
-    !matches!(effect, Effect::Cancel(_))
-}
-
 fn guest_write(offset: u32, size: u8, value: u64) -> Option<Event>
     requires size { IsAccessSize size }
     requires value { value < 256 ^ size }
     ensures { result ≡ write_event offset size value }
 {
     let access = Access::new(offset, size, Some(value))?;
-    if is_supported(decode(&access)) {
-        Some(Event::Access(access))
-    } else {
-        None
+    Some(Event::Access(access))
+}
+
+// What a line of one word asks for.
+fn parse_word(word: &[u8]) -> Option<Event>
+    ensures { result ≡ word_event word.now }
+{
+    match word {
+        b"work" => Some(Event::Work),
+        b"reset" => Some(Event::Reset),
+        _ => None,
     }
 }
 
@@ -139,26 +138,29 @@ fn parse_write(words: &[u8]) -> Option<Event>
     }
 }
 
+// What a line of a name and more words asks for.
+fn parse_access(name: &[u8], words: &[u8]) -> Option<Event>
+    ensures { result ≡ access_of name.now (parts_of SPACE words.now) }
+{
+    match name {
+        b"r" => parse_read(words),
+        b"w" => parse_write(words),
+        _ => None,
+    }
+}
+
 /// What a line asks for; a line comes without the LF that ends it. `None` comes where the line isn't in the grammar.
 ///
-/// The lines are `r OFF SIZE`, `w OFF SIZE VALUE` and `work`, with one space between words and nothing else. OFF has 1
-/// to 3 and VALUE 1 to `2 * SIZE` hexadecimal digits of either case, SIZE is `1`, `2`, `4` or `8`, and the access ends
-/// within the page. A write to CANCEL isn't in the grammar yet. The grammar is our own.
+/// The lines are `r OFF SIZE`, `w OFF SIZE VALUE`, `work` and `reset`, with one space between words and nothing else.
+/// OFF has 1 to 3 and VALUE 1 to `2 * SIZE` hexadecimal digits of either case, SIZE is `1`, `2`, `4` or `8`, and the
+/// access ends within the page. The grammar is our own.
 #[tactic(auto, unfolding(crate::specs::Script::event_of))]
 pub fn parse_line(line: &[u8]) -> Option<Event>
     ensures { result ≡ event_of line.now }
 {
     let (name, rest) = first_part(SPACE, line);
-    if name == b"work".as_slice() {
-        match rest {
-            Some(_) => None,
-            None => Some(Event::Work),
-        }
-    } else if name == b"r".as_slice() {
-        parse_read(rest?)
-    } else if name == b"w".as_slice() {
-        parse_write(rest?)
-    } else {
-        None
+    match rest {
+        None => parse_word(name),
+        Some(words) => parse_access(name, words),
     }
 }

@@ -3,6 +3,9 @@ ghost use Rattle.std.specs.Prelude.{◌≡◌, ◌∷◌, [], ◌<◌, ◌==◌,
 ghost use Rattle.std.specs.List.{position};
 ghost use Rattle.vt_script.specs.Script.{parts_of, lines_of};
 
+/// Stands between two words of a line.
+pub const SPACE: u8 = b' ';
+
 /// Ends a line.
 pub const LINE_FEED: u8 = b'\n';
 

@@ -26,6 +26,10 @@ pub enum Reply {
     Done(u64),
     /// The command was cancelled before it was executed.
     Cancelled(u64),
+    /// No reset was made, since the worker has a claimed command.
+    NotYet,
+    /// The device was reset.
+    Reset,
 }
 
 /// How many bytes the longest text of a value has: two digits for each of 8 bytes, and LF.
@@ -100,5 +104,7 @@ pub fn print_reply(alloc: Global, reply: &Reply, into: &mut Vec<u8>) -> Result<(
         Reply::Exec(number) => push_text(&format!(in alloc; "exec {number}\n")?, into),
         Reply::Done(number) => push_text(&format!(in alloc; "done {number}\n")?, into),
         Reply::Cancelled(number) => push_text(&format!(in alloc; "cancelled {number}\n")?, into),
+        Reply::NotYet => into.extend_from_slice(b"not yet\n"),
+        Reply::Reset => into.extend_from_slice(b"reset\n"),
     }
 }

@@ -3,6 +3,7 @@ ghost use Rattle.vt_script.specs.Replies.{IsPrintable};
 use super::*;
 use std::alloc::{AllocError, Global};
 use std::test::Fail;
+use vt_base::Bytes;
 
 // Offset, size and value of the access that a line asks for.
 fn access_of(line: &[u8]) -> Option<(u32, u8, Option<u64>)> {
@@ -30,10 +31,10 @@ fn accesses(rt: HostRuntime) {
             b"w ff8 8 0123456789aBcDeF".as_slice(),
             (0xff8, 8, Some(0x0123_4567_89ab_cdef)),
         ),
-        // At the place of CANCEL, but no write to it: its value, its size or its first byte is another.
+        // At the place of CANCEL.
+        (b"w 48 4 1".as_slice(), (0x48, 4, Some(1))),
+        (b"w 48 1 0".as_slice(), (0x48, 1, Some(0))),
         (b"w 48 4 2".as_slice(), (0x48, 4, Some(2))),
-        (b"w 48 8 1".as_slice(), (0x48, 8, Some(1))),
-        (b"w 49 1 1".as_slice(), (0x49, 1, Some(1))),
     ];
     for (line, wanted) in lines {
         assert!(rt; access_of(line) == Some(wanted), "at {line:?}");
@@ -41,8 +42,9 @@ fn accesses(rt: HostRuntime) {
 }
 
 #[test]
-fn work(rt: HostRuntime) {
+fn single_words(rt: HostRuntime) {
     assert!(rt; matches!(parse_line(b"work"), Some(Event::Work)));
+    assert!(rt; matches!(parse_line(b"reset"), Some(Event::Reset)));
 }
 
 #[test]
@@ -55,6 +57,11 @@ fn not_in_the_grammar(rt: HostRuntime) {
         b"work 1".as_slice(),
         b"Work".as_slice(),
         b"work\r".as_slice(),
+        b"reset ".as_slice(),
+        b" reset".as_slice(),
+        b"reset 1".as_slice(),
+        b"Reset".as_slice(),
+        b"RESET".as_slice(),
         b"r".as_slice(),
         b"r 0".as_slice(),
         b"r 0 ".as_slice(),
@@ -81,9 +88,8 @@ fn not_in_the_grammar(rt: HostRuntime) {
         b"w 80 1 001".as_slice(),
         b"w 80 8 00123456789abcdef".as_slice(),
         b"w ffd 4 1".as_slice(),
-        // Writes to CANCEL.
-        b"w 48 4 1".as_slice(),
-        b"w 48 1 0".as_slice(),
+        // A drive line is none of these.
+        b"cmd 80010000000a00000144".as_slice(),
     ];
     for line in lines {
         assert!(rt; parse_line(line).is_none(), "at {line:?}");
@@ -199,6 +205,128 @@ fn texts(rt: HostRuntime) -> Result<(), Fail> {
             Reply::Cancelled(u64::MAX),
             b"cancelled 18446744073709551615\n"
         )?
+    );
+    assert!(rt; prints(alloc, Reply::NotYet, b"not yet\n")?);
+    assert!(rt; prints(alloc, Reply::Reset, b"reset\n")?);
+    Ok(())
+}
+
+// The command that a line asks for.
+fn command_of(alloc: Global, line: &[u8]) -> Result<Option<Bytes>, AllocError> {
+    match parse_drive(alloc, line)? {
+        Some(DriveLine::Cmd(command)) => Ok(Some(command)),
+        None => Ok(None),
+    }
+}
+
+#[test]
+fn commands(rt: HostRuntime) -> Result<(), Fail> {
+    let alloc = rt.alloc();
+    let lines = [
+        (
+            b"cmd 80010000000c000001440000".as_slice(),
+            b"\x80\x01\x00\x00\x00\x0c\x00\x00\x01\x44\x00\x00".as_slice(),
+        ),
+        // The shortest command, and digits of both cases.
+        (
+            b"cmd 80010000000a0000abCD".as_slice(),
+            b"\x80\x01\x00\x00\x00\x0a\x00\x00\xab\xcd".as_slice(),
+        ),
+        // Only its size is looked at.
+        (
+            b"cmd FFff0000000AFFFFffff".as_slice(),
+            b"\xff\xff\x00\x00\x00\x0a\xff\xff\xff\xff".as_slice(),
+        ),
+    ];
+    for (line, wanted) in lines {
+        let command = command_of(alloc, line)?;
+        assert!(rt;
+            command.is_some_and(|bytes| bytes.as_slice() == wanted),
+            "at {line:?}"
+        );
+    }
+    Ok(())
+}
+
+#[test]
+fn no_drive_lines(rt: HostRuntime) -> Result<(), Fail> {
+    let alloc = rt.alloc();
+    let lines = [
+        b"".as_slice(),
+        b" ".as_slice(),
+        b"cmd".as_slice(),
+        b"cmd ".as_slice(),
+        b"80010000000a00000144".as_slice(),
+        b"CMD 80010000000a00000144".as_slice(),
+        b"cmd80010000000a00000144".as_slice(),
+        b" cmd 80010000000a00000144".as_slice(),
+        b"cmd  80010000000a00000144".as_slice(),
+        b"cmd\t80010000000a00000144".as_slice(),
+        b"cmd 80010000000a00000144 ".as_slice(),
+        b"cmd 80010000000a00000144\r".as_slice(),
+        b"cmd 80010000000a 00000144".as_slice(),
+        b"cmd 0x80010000000a00000144".as_slice(),
+        b"cmd 8001000000ga00000144".as_slice(),
+        // An odd number of digits.
+        b"cmd 80010000000a0000014".as_slice(),
+        b"cmd 80010000000a000001440".as_slice(),
+        // Nine bytes.
+        b"cmd 800100000009000001".as_slice(),
+        // Another number in the size field: one less, one more, too much by its highest byte, the lowest byte first.
+        b"cmd 80010000000900000144".as_slice(),
+        b"cmd 80010000000b00000144".as_slice(),
+        b"cmd 80010100000a00000144".as_slice(),
+        b"cmd 80010a00000000000144".as_slice(),
+        b"work".as_slice(),
+    ];
+    for line in lines {
+        assert!(rt; command_of(alloc, line)?.is_none(), "at {line:?}");
+    }
+    Ok(())
+}
+
+// The line of a command of so many bytes, at least six, which are zeros but for the size field.
+fn line_of_zeros(alloc: Global, count: u32) -> Result<String, AllocError> {
+    let mut line = format!(in alloc; "cmd 0000{count:08x}")?;
+    for _ in 6..count {
+        line.push_str("00")?;
+    }
+    Ok(line)
+}
+
+#[test]
+fn long_commands(rt: HostRuntime) -> Result<(), Fail> {
+    let alloc = rt.alloc();
+    for (count, is_taken) in [
+        (10, true),
+        (3967, true),
+        (3968, true),
+        (3969, false),
+        (4096, false),
+    ] {
+        let line = line_of_zeros(alloc, count)?;
+        let command = command_of(alloc, line.as_bytes())?;
+        let taken = command.is_some_and(|bytes| bytes.as_slice().len() == count as usize);
+        assert!(rt; taken == is_taken, "at {count}");
+    }
+    Ok(())
+}
+
+#[test]
+fn responses(rt: HostRuntime) -> Result<(), Fail> {
+    let alloc = rt.alloc();
+    let mut printed = Vec::new(alloc);
+    print_response(
+        alloc,
+        b"\x80\x01\x00\x00\x00\x0a\x00\x00\x01\xef",
+        &mut printed,
+    )?;
+    assert_eq!(rt; printed.as_slice(), b"80010000000a000001ef\n".as_slice());
+    print_response(alloc, b"", &mut printed)?;
+    print_response(alloc, b"\xff", &mut printed)?;
+    assert_eq!(rt;
+        printed.as_slice(),
+        b"80010000000a000001ef\n\nff\n".as_slice()
     );
     Ok(())
 }
