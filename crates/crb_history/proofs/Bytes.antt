@@ -1,7 +1,6 @@
 -- Bytes that are the same in a range give the same numbers and lists.
-use Rattle.std.proofs.Common.{◌≡◌, ℕ, zero, suc, ◌+◌, ◌*◌, ◌<◌, ◌≤◌, List, ◌∷◌, refl, ap, ◌∙◌, arith, drop, drop-cons, add-one}
+use Rattle.std.proofs.Common.{◌≡◌, ℕ, zero, suc, ◌+◌, ◌<◌, ◌≤◌, List, ◌∷◌, refl, ap, ◌∙◌, arith, drop, drop-cons, add-one}
 use Rattle.std.specs.Prelude.{slice_index, length, take}
-use Rattle.std.specs.Int.{w32, from_be_bytes}
 use Rattle.crb_regs.specs.LittleEndian.{number_at}
 use Rattle.tpm_frame.specs.Frames.{frame_length_of}
 use Rattle.crb_history.specs.Bytes.{bytes_at, command_in}

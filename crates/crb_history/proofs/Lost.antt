@@ -1,5 +1,5 @@
 -- A lost device.
-use Rattle.std.proofs.Common.{◌≡◌, ℕ, ◌-◌, ◌++◌, Bool, true, false, List, [], ◌∷◌, refl, ap, sym, ◌∙◌}
+use Rattle.std.proofs.Common.{◌≡◌, ℕ, ◌-◌, ◌++◌, Bool, true, false, [], ◌∷◌, refl, ap, sym, ◌∙◌}
 use Rattle.std.specs.Prelude.{if◌then◌else◌, nat_lt}
 use Rattle.crb_regs.specs.Registers.{register_byte}
 use Rattle.crb_regs.specs.declared.registers.Regs.{Regs}
@@ -9,11 +9,11 @@ use Rattle.crb_regs.specs.declared.effect.Effect.{Effect}
 use Rattle.crb_regs.specs.declared.effect.Effect.TheVariants.{Buffer, CmdReady, GoIdle, Start, Cancel, Request, Relinquish, Nothing}
 use Rattle.crb_machine.specs.Phases.{is_accepted, phase_after}
 use Rattle.crb_machine.specs.Steps.{buffer_byte}
-use Rattle.crb_machine.specs.declared.slot.Outcome.TheVariants.{Done, Cancelled, Lost as EndedLost}
+use Rattle.crb_port.specs.declared.job.Outcome.TheVariants.{Done, Cancelled, Lost as EndedLost}
 use Rattle.crb_history.specs.Base.{Base}
 use Rattle.crb_history.specs.Event.{Event, History}
 use Rattle.crb_history.specs.Event.Event.{Read, Write, Claim, Sent, Exec, Finish, Ask, Reset, ResetLost}
-use Rattle.crb_history.specs.Device.{effect_of, phase_of, is_granted, is_cancel, registers_of, buffer, shows}
+use Rattle.crb_history.specs.Device.{effect_of, phase_of, is_granted, registers_of, buffer, shows}
 use Rattle.crb_history.specs.Legal.{Legal, MayCome}
 
 -- a lost device accepts no write

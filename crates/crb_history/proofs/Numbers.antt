@@ -1,12 +1,12 @@
 -- Starts and executions are counted by the numbers and the lists that they leave.
-use Rattle.std.proofs.Common.{◌≡◌, ℕ, ◌+◌, ◌%◌, ◌^◌, ◌<◌, Bool, true, false, List, [], ◌∷◌, refl, ap, sym, ◌∙◌, arith}
+use Rattle.std.proofs.Common.{◌≡◌, ℕ, ◌+◌, ◌%◌, ◌^◌, ◌<◌, Bool, true, false, List, [], ◌∷◌, refl, ap, ◌∙◌, arith}
 use Rattle.std.specs.Prelude.{if◌then◌else◌}
 use Rattle.crb_regs.specs.Registers.{is_executing}
-use Rattle.crb_machine.specs.declared.slot.Outcome.TheVariants.{Done, Cancelled, Lost}
+use Rattle.crb_port.specs.declared.job.Outcome.TheVariants.{Done, Cancelled, Lost}
 use Rattle.crb_history.specs.Base.{Base}
 use Rattle.crb_history.specs.Event.{History}
 use Rattle.crb_history.specs.Event.Event.{Read, Write, Claim, Sent, Exec, Finish, Ask, Reset, ResetLost}
-use Rattle.crb_history.specs.Device.{Start, starts, started, number_of, latest_number, executed, waiting_start}
+use Rattle.crb_history.specs.Device.{starts, started, number_of, latest_number, executed, waiting_start}
 use Rattle.crb_history.specs.Counts.{start_count, done_count, execution_count}
 
 -- the number after one more start

@@ -1,6 +1,5 @@
 -- Cancelling, looked back at.
 use Rattle.std.specs.Prelude.{Bool, true, false, ◌||◌, ◌&&◌, if◌then◌else◌, [], ◌∷◌}
-use Rattle.crb_regs.specs.Access.{Access}
 use Rattle.crb_regs.specs.declared.effect.Effect.{Effect}
 use Rattle.crb_regs.specs.declared.effect.Effect.TheVariants.{Cancel}
 use Rattle.crb_history.specs.Base.{Base}

@@ -1,6 +1,6 @@
 -- How often something happened.
-use Rattle.std.specs.Prelude.{ℕ, zero, suc, ◌+◌, if◌then◌else◌, List, [], ◌∷◌}
-use Rattle.crb_machine.specs.declared.slot.Outcome.TheVariants.{Done}
+use Rattle.std.specs.Prelude.{ℕ, ◌+◌, if◌then◌else◌, List, [], ◌∷◌}
+use Rattle.crb_port.specs.declared.job.Outcome.TheVariants.{Done}
 use Rattle.tpm_core.specs.Answers.{Entry}
 use Rattle.tpm_core.specs.Answers.Entry.{Executed}
 use Rattle.crb_history.specs.Base.{Base}

@@ -1,5 +1,5 @@
 -- The device by its history. Nothing is kept: each value is found by looking back.
-use Rattle.std.specs.Prelude.{ℕ, ◌+◌, ◌-◌, ◌%◌, ◌^◌, Bool, true, false, ◌&&◌, nat_lt, nat_le, if◌then◌else◌, List, [], ◌∷◌, slice_index, unwrap_or}
+use Rattle.std.specs.Prelude.{ℕ, ◌+◌, ◌-◌, ◌%◌, ◌^◌, Bool, false, ◌&&◌, nat_lt, nat_le, if◌then◌else◌, List, [], ◌∷◌, slice_index, unwrap_or}
 use Rattle.crb_regs.specs.LittleEndian.{byte_of}
 use Rattle.crb_regs.specs.Access.{Access}
 use Rattle.crb_regs.specs.Effects.{effect}
@@ -12,8 +12,8 @@ use Rattle.crb_regs.specs.declared.effect.Effect.{Effect}
 use Rattle.crb_regs.specs.declared.effect.Effect.TheVariants.{Buffer, CmdReady, GoIdle}
 use Rattle.crb_machine.specs.Phases.{is_accepted, phase_after, granted_after, cancel_after}
 use Rattle.crb_machine.specs.Steps.{buffer_byte, is_start}
-use Rattle.crb_machine.specs.declared.slot.Outcome.{Outcome}
-use Rattle.crb_machine.specs.declared.slot.Outcome.TheVariants.{Done, Cancelled, Lost as EndedLost}
+use Rattle.crb_port.specs.declared.job.Outcome.{Outcome}
+use Rattle.crb_port.specs.declared.job.Outcome.TheVariants.{Done, Cancelled, Lost as EndedLost}
 use Rattle.tpm_core.specs.Answers.{Entry, answer}
 use Rattle.tpm_core.specs.Answers.Entry.{Executed, PowerOn}
 use Rattle.tpm_core.specs.Responses.{cancelled}

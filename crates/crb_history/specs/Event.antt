@@ -1,7 +1,7 @@
 -- What can happen to the device and its TPM. No event speaks of a move.
 use Rattle.std.specs.Prelude.{ℕ, Bool, List}
 use Rattle.crb_regs.specs.Access.{Access}
-use Rattle.crb_machine.specs.declared.slot.Outcome.{Outcome}
+use Rattle.crb_port.specs.declared.job.Outcome.{Outcome}
 
 pub data Event : Type 0 where
   -- the guest read this value

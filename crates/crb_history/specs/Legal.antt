@@ -2,7 +2,7 @@
 use Rattle.std.specs.Prelude.{◌≡◌, ◌≢◌, ◌≤◌, ◌+◌, true, [], ◌∷◌}
 use Rattle.crb_regs.specs.LittleEndian.{number_at}
 use Rattle.crb_regs.specs.declared.phase.Phase.TheVariants.{Execution, Lost}
-use Rattle.crb_machine.specs.declared.slot.Outcome.TheVariants.{Done, Cancelled, Lost as EndedLost}
+use Rattle.crb_port.specs.declared.job.Outcome.TheVariants.{Done, Cancelled, Lost as EndedLost}
 use Rattle.crb_history.specs.Base.{Base}
 use Rattle.crb_history.specs.Event.{Event, History}
 use Rattle.crb_history.specs.Event.Event.{Read, Write, Claim, Sent, Exec, Finish, Ask, Reset, ResetLost}

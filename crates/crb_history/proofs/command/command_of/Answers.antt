@@ -1,5 +1,4 @@
 use Rattle.std.proofs.Common.{◌≡◌, ◌∙◌, length, take, refl, ap}
-use Rattle.tpm_frame.specs.Frames.{frame_length_of}
 use Rattle.crb_history.proofs.Bytes.{take-command_in}
 use Rattle.crb_history.proofs.command.command_of.Goals as goal
 
