@@ -1,21 +1,19 @@
 -- The last command where it stands.
-use Rattle.std.proofs.Common.{◌≡◌, ◌≢◌, ℕ, ◌<◌, Bool, true, false, List, refl, ap, sym, ◌∙◌}
-use Rattle.vt_base.specs.Buffer.{followed_by_zeros}
+use Rattle.std.proofs.Common.{◌≡◌, ℕ, false, sym, ◌∙◌}
 use Rattle.crb_regs.specs.declared.phase.Phase.TheVariants.{Execution}
-use Rattle.crb_machine.specs.State.{is_home}
-use Rattle.crb_machine.specs.declared.slot.Job.{Job}
-use Rattle.crb_machine.specs.declared.slot.Answer.{Answer}
-use Rattle.crb_machine.specs.declared.slot.Slot.{Slot}
-use Rattle.crb_machine.specs.declared.slot.Slot.TheVariants.{Home, Queued, Claimed as ClaimedSlot, Answered}
+use Rattle.crb_machine.specs.State.{is_home, Slot}
+use Rattle.crb_port.specs.declared.job.Job.{Job}
+use Rattle.crb_port.specs.declared.job.Answer.{Answer}
+use Rattle.crb_machine.specs.State.Slot.{Home, Queued, Claimed as ClaimedSlot, Answered}
 use Rattle.tpm_core.specs.Answers.{answer}
 use Rattle.crb_history.specs.Base.{Base}
 use Rattle.crb_history.specs.Event.{History}
 use Rattle.crb_history.specs.Device.{phase_of, number_of, buffer, last_command, executed, stage_of, Stage}
-use Rattle.crb_history.specs.Device.Stage.{Waiting, Claimed, HasSent, HasRun}
+use Rattle.crb_history.specs.Device.Stage.{Waiting, Claimed, HasSent}
 use Rattle.crb_history.specs.Asked.{held_back}
 use Rattle.crbsim.specs.declared.session.Progress.{Progress}
 use Rattle.crbsim.specs.declared.session.Progress.TheVariants.{Idle as NoJob, Claimed as ClaimedJob, Sent as SentJob, Executed as ExecutedJob}
-use Rattle.crbsim.specs.Follows.{HoldsBytes, HoldsBuffer, IsLastJob, IsLastAnswer, IsJobAfter}
+use Rattle.crbsim.specs.Follows.{HoldsBuffer, IsLastJob, IsLastAnswer, IsJobAfter}
 
 -- the last command is at the same stage after both histories
 pub record SameCommand (b : Base) (p q : History) : Type 0 where

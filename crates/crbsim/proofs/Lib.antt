@@ -4,6 +4,10 @@ pub mod Held
 pub mod Jobs
 pub mod Writes
 pub mod Sessions
+pub mod Resets
 pub mod Prefixes
 pub mod Endings
 pub mod Words
+pub mod Driving
+pub mod Answering
+pub mod Buses

@@ -1,59 +1,113 @@
--- One more line with its reply, and what the lines so far say of the output.
+-- One more line that is done, and what the lines so far give.
 use Rattle.std.proofs.Common.{◌≡◌, ℕ, List, [], ◌∷◌, ◌++◌, length, take, map, refl, ap, sym, ◌∙◌, append_assoc, Some, None, arith}
 use Rattle.std.specs.Prelude.{Option, slice_get}
 use Rattle.std.proofs.lemmas.Grind.{common_steps}
 use Rattle.std.proofs.lemmas.List.{length-map}
+use Rattle.vt_script.specs.declared.drive.DriveLine.{DriveLine}
+use Rattle.vt_script.specs.declared.drive.DriveLine.TheVariants.{Cmd}
 use Rattle.vt_script.specs.declared.event.Event.{Event as Line}
 use Rattle.vt_script.specs.declared.reply.Reply.{Reply}
-use Rattle.crbsim.specs.declared.session.Session.{Session}
+use Rattle.vt_script.specs.Drive.{drive_of, hex_line}
+use Rattle.vt_script.specs.Script.{lines_of, event_of}
+use Rattle.tpm_core.specs.Answers.{answer}
+use Rattle.tpm_core.specs.Answers.Entry.{Executed}
 use Rattle.crb_history.specs.Replies.{Transcript, history}
+use Rattle.crbsim.specs.declared.session.Session.{Session}
+use Rattle.crbsim.specs.Bus.{Responds}
+use Rattle.crbsim.specs.Driven.{driven, past_of}
 use Rattle.crbsim.specs.Follows.{Follows, Steps}
 use Rattle.crbsim.specs.Start.{start}
-use Rattle.vt_script.specs.Script.{lines_of, event_of}
-use Rattle.crbsim.specs.Run.{meanings, lines_in, texts, IsRunOf}
-use Rattle.crbsim.specs.Loop.{StandsAt}
+use Rattle.crbsim.specs.Run.{meanings, in_order, line_of, spelled, texts, replayed, driven_by}
+use Rattle.crbsim.specs.Loop.{AreDone, StandsAt, DrivesAt}
 
-length-lines_in : (t : Transcript) → length (lines_in t) ≡ length t
-length-lines_in [] = refl
-length-lines_in (x ∷ t) = grind (arith, common_steps, length-lines_in t)
+length-in_order : {A B : Type 0} (f : A → B) (t : List A) → length (in_order f t) ≡ length t
+length-in_order f [] = refl
+length-in_order f (x ∷ t) = grind (arith, common_steps, length-in_order f t)
 
-take-front : (xs ys : List (Option Line)) (n : ℕ) → n ≡ length xs → take n (xs ++ ys) ≡ xs
+take-front : {A : Type 0} (xs ys : List A) (n : ℕ) → n ≡ length xs → take n (xs ++ ys) ≡ xs
 take-front [] ys n is = rw is refl
 take-front (x ∷ xs) ys n is = rw is (ap (λ rest. x ∷ rest) (take-front xs ys (length xs) refl))
 
-get-behind : (xs ys : List (Option Line)) (y : Option Line) (n : ℕ) → n ≡ length xs → slice_get (xs ++ y ∷ ys) n ≡ Some y
+get-behind : {A : Type 0} (xs ys : List A) (y : A) (n : ℕ) → n ≡ length xs → slice_get (xs ++ y ∷ ys) n ≡ Some y
 get-behind [] ys y n is = rw is refl
 get-behind (x ∷ xs) ys y n is = rw is (get-behind xs ys y (length xs) refl)
+
+module _ {A L : Type 0} (grammar : List ℕ → Option L) (line : A → Option L) (script rest : List ℕ) (t : List A) (done : AreDone grammar script rest (in_order line t)) where
+  -- one more line is done
+  done-more : (x : A) (text after : List ℕ) → lines_of rest ≡ text ∷ lines_of after → grammar text ≡ line x → AreDone grammar script after (in_order line (x ∷ t))
+  done-more x text after cut is =
+      let more : meanings grammar rest ≡ line x ∷ meanings grammar after = ap (map grammar) cut ∙ ap (λ l. l ∷ meanings grammar after) is in
+      done ∙ ap (λ ls. in_order line t ++ ls) more ∙ sym (append_assoc (in_order line t) (line x ∷ []) (meanings grammar after))
+
+  -- the lines that are done are the first of the script
+  done-front : in_order line t ≡ take (length t) (meanings grammar script)
+  done-front = sym (ap (take (length t)) done ∙ take-front (in_order line t) (meanings grammar rest) (length t) (sym (length-in_order line t)))
+
+  -- all lines are done
+  done-all : rest ≡ [] → length t ≡ length (lines_of script)
+  done-all end =
+      sym (sym (length-map (lines_of script) grammar) ∙ ap length done ∙ length-end (in_order line t) rest end ∙ length-in_order line t)
+    where
+      length-end : (xs : List (Option L)) (none : List ℕ) → none ≡ [] → length (xs ++ meanings grammar none) ≡ length xs
+      length-end xs none end = rw end (grind (arith, common_steps))
+
+  -- the first line that isn't in the grammar
+  done-bad : (text after : List ℕ) → lines_of rest ≡ text ∷ lines_of after → grammar text ≡ None → slice_get (meanings grammar script) (length t) ≡ Some None
+  done-bad text after cut bad =
+      rw (done, cut, get-behind (in_order line t) (meanings grammar after) (grammar text) (length t) (sym (length-in_order line t))) (ap Some bad)
 
 pub stands-start : (script : List ℕ) (session : Session) → Follows start [] session → StandsAt script script [] session
 stands-start script session follows = record { lines = refl; run = record { legal = tt; in_turn = tt }; follows = follows }
 
--- one more line is done
+-- one more line of a replay
 pub stands-more : (script rest : List ℕ) (t : Transcript) (old new : Session) (text after : List ℕ) (line : Line) (reply : Reply) → StandsAt script rest t old → lines_of rest ≡ text ∷ lines_of after → event_of text ≡ Some line → Steps start (history t) (Some line) reply new → StandsAt script after (record { line = Some line; reply = reply } ∷ t) new
-stands-more script rest t old new text after line reply stands cut is steps =
-    let more : meanings rest ≡ Some line ∷ meanings after = ap (map event_of) cut ∙ ap (λ l. l ∷ meanings after) is in
-    record {
-      lines = stands.lines ∙ ap (λ ls. lines_in t ++ ls) more ∙ sym (append_assoc (lines_in t) (Some line ∷ []) (meanings after));
-      run = record { legal = steps.legal stands.run.legal; in_turn = (stands.run.in_turn, steps.answers) };
-      follows = steps.follows;
-    }
-
--- the lines that are done are the first of the script
-pub stands-run : (script rest : List ℕ) (t : Transcript) (session : Session) → StandsAt script rest t session → IsRunOf script t
-stands-run script rest t session stands = record {
-  lines = sym (ap (take (length t)) stands.lines ∙ take-front (lines_in t) (meanings rest) (length t) (sym (length-lines_in t)));
-  run = stands.run;
+stands-more script rest t old new text after line reply stands cut is steps = record {
+  lines = done-more event_of line_of script rest t stands.lines (record { line = Some line; reply = reply }) text after cut is;
+  run = record { legal = steps.legal stands.run.legal; in_turn = (stands.run.in_turn, steps.answers) };
+  follows = steps.follows;
 }
 
--- all lines are done
-pub stands-all : (script : List ℕ) (t : Transcript) (session : Session) → StandsAt script [] t session → length t ≡ length (lines_of script)
-stands-all script t session stands =
-    sym (sym (length-map (lines_of script) event_of) ∙ ap length stands.lines ∙ length-end (lines_in t) ∙ length-lines_in t)
-  where
-    length-end : (xs : List (Option Line)) → length (xs ++ meanings []) ≡ length xs
-    length-end xs = grind (arith, common_steps)
+-- what the lines so far give
+pub stands-gives : (script rest : List ℕ) (t : Transcript) (session : Session) → StandsAt script rest t session → (replayed script).Gives (length t) (texts t)
+stands-gives script rest t session stands = (t, record { lines = done-front event_of line_of script rest t stands.lines; run = stands.run }, refl, refl)
 
--- the first line that isn't in the grammar
-pub stands-bad : (script rest : List ℕ) (t : Transcript) (session : Session) (text after : List ℕ) → StandsAt script rest t session → lines_of rest ≡ text ∷ lines_of after → event_of text ≡ None → slice_get (meanings script) (length t) ≡ Some None
-stands-bad script rest t session text after stands cut bad =
-    rw (stands.lines, cut, get-behind (lines_in t) (meanings after) (event_of text) (length t) (sym (length-lines_in t))) (ap Some bad)
+pub stands-all : (script rest : List ℕ) (t : Transcript) (session : Session) → StandsAt script rest t session → rest ≡ [] → length t ≡ length (lines_of script)
+stands-all script rest t session stands end = done-all event_of line_of script rest t stands.lines end
+
+pub stands-bad : (script rest : List ℕ) (t : Transcript) (session : Session) (text after : List ℕ) → StandsAt script rest t session → lines_of rest ≡ text ∷ lines_of after → event_of text ≡ None → (replayed script).IsBad (length t)
+stands-bad script rest t session text after stands cut bad = done-bad event_of line_of script rest t stands.lines text after cut bad
+
+pub drives-start : (script : List ℕ) (session : Session) → Follows start [] session → DrivesAt script script [] session
+drives-start script session follows = record { done = refl; history = []; rest_at = record { after = record { follows = follows; legal = tt }; idle = refl }; past = refl }
+
+-- one more line of a drive, and the text of its response
+pub record DrivesOn (script after : List ℕ) (lines : List DriveLine) (line : DriveLine) (was now : List ℕ) (session : Session) : Type 0 where
+  pub drives : DrivesAt script after (line ∷ lines) session
+  pub response : List ℕ
+  pub appended : now ≡ was ++ response
+  pub whole : driven start.tpm lines ++ response ≡ driven start.tpm (line ∷ lines)
+
+pub drives-more : (script rest : List ℕ) (lines : List DriveLine) (old new : Session) (text after : List ℕ) (line : DriveLine) (was now : List ℕ) (drives : DrivesAt script rest lines old) → lines_of rest ≡ text ∷ lines_of after → drive_of text ≡ Some line → Responds start drives.history line was now new → DrivesOn script after lines line was now new
+drives-more script rest lines old new text after (Cmd command) was now drives cut is responds =
+    let calls = responds.1 in
+    let answered : responds.0 ≡ answer start.tpm (past_of lines) command = calls.answered ∙ ap (λ past. answer start.tpm past command) drives.past in
+    record {
+      drives = record {
+        done = done-more drive_of spelled script rest lines drives.done (Cmd command) text after cut is;
+        history = calls.history;
+        rest_at = calls.rest;
+        past = calls.past ∙ ap (λ before. Executed command ∷ before) drives.past;
+      };
+      response = hex_line responds.0;
+      appended = responds.2;
+      whole = ap (λ response. driven start.tpm lines ++ hex_line response) answered;
+    }
+
+pub drives-gives : (script rest : List ℕ) (lines : List DriveLine) (session : Session) → DrivesAt script rest lines session → (driven_by script).Gives (length lines) (driven start.tpm lines)
+drives-gives script rest lines session drives = (lines, done-front drive_of spelled script rest lines drives.done, refl, refl)
+
+pub drives-all : (script rest : List ℕ) (lines : List DriveLine) (session : Session) → DrivesAt script rest lines session → rest ≡ [] → length lines ≡ length (lines_of script)
+drives-all script rest lines session drives end = done-all drive_of spelled script rest lines drives.done end
+
+pub drives-bad : (script rest : List ℕ) (lines : List DriveLine) (session : Session) (text after : List ℕ) → DrivesAt script rest lines session → lines_of rest ≡ text ∷ lines_of after → drive_of text ≡ None → (driven_by script).IsBad (length lines)
+drives-bad script rest lines session text after drives cut bad = done-bad drive_of spelled script rest lines drives.done text after cut bad

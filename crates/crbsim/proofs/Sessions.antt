@@ -1,43 +1,43 @@
 -- One line keeps a session with its history.
-use Rattle.std.proofs.Common.{◌≡◌, ◌≢◌, ℕ, ◌+◌, ◌-◌, ◌<◌, ◌≤◌, Bool, true, false, List, [], ◌∷◌, length, refl, ap, sym, ◌∙◌, arith, Some, None}
+use Rattle.std.proofs.Common.{◌≡◌, ◌≢◌, ℕ, ◌+◌, ◌-◌, ◌<◌, ◌≤◌, Bool, true, false, List, [], ◌∷◌, length, refl, ap, sym, subst, ◌∙◌, arith, Some, None}
 use Rattle.std.specs.Prelude.{IsSome, slice_index, nat_lt}
 use Rattle.vt_base.specs.Buffer.{zeros, followed_by_zeros}
 use Rattle.vt_base.proofs.Zeros.{length-zeros, length-followed_by_zeros, get_or-append_zeros}
 use Rattle.crb_regs.specs.LittleEndian.{number_at}
 use Rattle.crb_regs.specs.Access.{Access}
-use Rattle.crb_regs.specs.Registers.{is_executing}
-use Rattle.crb_regs.specs.declared.registers.Regs.{Regs}
 use Rattle.crb_regs.specs.declared.phase.Phase.{Phase}
-use Rattle.crb_regs.specs.declared.phase.Phase.TheVariants.{Idle, Ready, Reception, Execution, Completion, Lost}
-use Rattle.crb_machine.specs.State.{DeviceState}
+use Rattle.crb_regs.specs.declared.phase.Phase.TheVariants.{Idle, Execution, Lost}
+use Rattle.crb_machine.specs.State.{DeviceState, Slot}
+use Rattle.crb_port.specs.Plain.{plain}
+use Rattle.crb_machine.specs.Over.{HasInHand, hand_at}
 use Rattle.crb_machine.specs.Steps.{fresh_state, written, collected, collected_at, device_byte, content, buffer_byte}
-use Rattle.crb_machine.specs.declared.slot.Job.{Job}
-use Rattle.crb_machine.specs.declared.slot.Answer.{Answer}
-use Rattle.crb_machine.specs.declared.slot.Outcome.TheVariants.{Done, Cancelled}
-use Rattle.crb_machine.specs.declared.slot.Slot.{Slot}
-use Rattle.crb_machine.specs.declared.slot.Slot.TheVariants.{Home, Queued, Claimed as ClaimedSlot, Answered}
-use Rattle.tpm_core.specs.Answers.{answer, values_after, powered_on}
+use Rattle.crb_port.specs.declared.job.Job.{Job}
+use Rattle.crb_port.specs.declared.job.Answer.{Answer}
+use Rattle.crb_port.specs.declared.job.Outcome.TheVariants.{Done, Cancelled}
+use Rattle.crb_machine.specs.State.Slot.{Home, Queued, Claimed as ClaimedSlot, Answered}
+use Rattle.tpm_core.specs.Answers.{answer, values_after}
 use Rattle.tpm_core.specs.Answers.Entry.{Executed}
-use Rattle.tpm_core.specs.Fresh.{manufactured}
 use Rattle.tpm_core.specs.Steps.{IsFit}
 use Rattle.tpm_core.specs.Responses.{cancelled}
 use Rattle.tpm_core.specs.declared.parts.TpmParts.{TpmParts}
 use Rattle.crb_history.specs.Base.{Base}
 use Rattle.crb_history.specs.Bytes.{command_in}
 use Rattle.crb_history.specs.Event.{History}
-use Rattle.crb_history.specs.Event.Event.{Read, Write, Sent, Exec, Finish}
-use Rattle.crb_history.specs.Device.{effect_of, registers_of, phase_of, is_granted, number_of, buffer, last_command, executed, stage_of, Stage, shows, phase_at_end}
+use Rattle.crb_history.specs.Event.Event.{Read, Write, Sent, Exec}
+use Rattle.crb_history.specs.Device.{effect_of, registers_of, phase_of, is_granted, number_of, buffer, last_command, executed, Stage, shows, phase_at_end}
 use Rattle.crb_history.specs.Device.Stage.{Waiting, Claimed, HasSent, HasRun}
 use Rattle.crb_history.specs.Asked.{held_back}
 use Rattle.crb_history.specs.Legal.{IsAt}
-use Rattle.crb_history.specs.Replies.{turn, turn_at}
+use Rattle.crb_history.specs.Replies.{turn, turn_at, with_event}
+use Rattle.std.specs.Prelude.{Option}
+use Rattle.vt_script.specs.declared.event.Event.{Event as Line}
 use Rattle.vt_script.specs.declared.event.Event.TheVariants.{Access as AccessLine, Work}
 use Rattle.vt_script.specs.declared.reply.Reply.{Reply}
 use Rattle.vt_script.specs.declared.reply.Reply.TheVariants as replied
 use Rattle.crbsim.specs.declared.session.Session.{Session}
 use Rattle.crbsim.specs.declared.session.Progress.{Progress}
 use Rattle.crbsim.specs.declared.session.Progress.TheVariants.{Idle as NoJob, Claimed as ClaimedJob, Sent as SentJob, Executed as ExecutedJob}
-use Rattle.crbsim.specs.Follows.{IsDeviceAfter, HoldsBuffer, IsJobAfter, gone_through, Follows, Steps}
+use Rattle.crbsim.specs.Follows.{IsDeviceAfter, HoldsBuffer, IsJobAfter, gone_through, Seen, seen, FollowsSeen, StepsSeen, Follows, Steps}
 use Rattle.crbsim.specs.Start.{start}
 use Rattle.crb_history.proofs.Bytes.{number_at-same}
 use Rattle.crbsim.proofs.Held.{held-asked}
@@ -64,13 +64,13 @@ IsDeviceAfter-same b p q d regs number bytes is = record {
 }
 
 -- what stays where the device is what it was once it took home an answer
-Follows-settled : (b : Base) (p : History) (s : Session) (d : DeviceState) → IsDeviceAfter b p d → IsJobAfter b p d.slot s.progress → s.tpm ≡ values_after b.tpm (gone_through b p s.progress) → IsFit b.tpm → length s.spare ≡ 3968 → phase_of b p ≢ Lost → Follows b p (record s { device = d })
+Follows-settled : (b : Base) (p : History) (s : Seen) (d : DeviceState) → IsDeviceAfter b p d → IsJobAfter b p d.slot s.progress → s.tpm ≡ values_after b.tpm (gone_through b p s.progress) → IsFit b.tpm → length s.spare ≡ 3968 → phase_of b p ≢ Lost → FollowsSeen b p (record s { device = d })
 Follows-settled b p s d device job tpm fit spare working =
     let same : collected d ≡ d = collected-settled b p d d.slot s.progress job in
     record { device = rw same device; job = rw same job; tpm = tpm; fit = fit; spare = spare; working = working }
 
 -- a write of the guest
-pub write-steps : (b : Base) (p : History) (s : Session) (a : Access) → Follows b p s → a.offset + a.size ≤ 0x1000 → IsSome a.write → Steps b p (Some (AccessLine a)) replied.Accepted (record s { device = written (collected s.device) a })
+pub write-steps : (b : Base) (p : History) (s : Seen) (a : Access) → FollowsSeen b p s → a.offset + a.size ≤ 0x1000 → IsSome a.write → StepsSeen b p (Some (AccessLine a)) replied.Accepted (record s { device = written (collected s.device) a })
 write-steps b p s a follows fits some =
     let after = device-written b p (collected s.device) a follows.device fits in
     let job = job-written b p (collected s.device) a s.progress follows.device after follows.job in
@@ -106,7 +106,7 @@ gone_through-read b p a value (SentJob j) = refl
 gone_through-read b p a value (ExecutedJob j) = refl
 
 -- a read of the guest
-pub read-steps : (b : Base) (p : History) (s : Session) (a : Access) (value : ℕ) → Follows b p s → a.offset + a.size ≤ 0x1000 → a.write ≡ None → value ≡ number_at (device_byte (collected s.device)) a.offset a.size → Steps b p (Some (AccessLine a)) (replied.Value value a.size) (record s { device = collected s.device })
+pub read-steps : (b : Base) (p : History) (s : Seen) (a : Access) (value : ℕ) → FollowsSeen b p s → a.offset + a.size ≤ 0x1000 → a.write ≡ None → value ≡ number_at (device_byte (collected s.device)) a.offset a.size → StepsSeen b p (Some (AccessLine a)) (replied.Value value a.size) (record s { device = collected s.device })
 read-steps b p s a value follows fits none is =
     record {
       answers = (none, refl);
@@ -123,10 +123,10 @@ turn_here : (b : Base) (p : History) (stage : Stage) (reply : Reply) → IsAt b 
 turn_here b p stage reply at is = rw (at.executing, at.reached) is
 
 -- the claimed job is sent
-pub sent-steps : (b : Base) (p : History) (s : Session) (job : Job) → job.cancelled ≡ false → Follows b p (record s { progress = ClaimedJob job }) → Steps b p (Some Work) (replied.Sent job.number) (record s { progress = SentJob job })
+pub sent-steps : (b : Base) (p : History) (s : Seen) (job : Job) → job.cancelled ≡ false → FollowsSeen b p (record s { progress = ClaimedJob job }) → StepsSeen b p (Some Work) (replied.Sent job.number) (record s { progress = SentJob job })
 sent-steps b p s job free follows = go (collected s.device).slot refl follows.job
   where
-    go : (slot : Slot) → (collected s.device).slot ≡ slot → IsJobAfter b p slot (ClaimedJob job) → Steps b p (Some Work) (replied.Sent job.number) (record s { progress = SentJob job })
+    go : (slot : Slot) → (collected s.device).slot ≡ slot → IsJobAfter b p slot (ClaimedJob job) → StepsSeen b p (Some Work) (replied.Sent job.number) (record s { progress = SentJob job })
     go (Home bytes) here is = absurd is
     go (Queued j) here is = absurd is
     go (Answered j) here is = absurd is
@@ -144,16 +144,16 @@ sent-steps b p s job free follows = go (collected s.device).slot refl follows.jo
     }
 
 -- the TPM executed the command that was sent
-pub executed-steps : (b : Base) (p : History) (s : Session) (job : Job) (x : List ℕ) (tpm : TpmParts) (buf : List ℕ)
-    → Follows b p (record s { progress = SentJob job })
+pub executed-steps : (b : Base) (p : History) (s : Seen) (job : Job) (x : List ℕ) (tpm : TpmParts) (buf : List ℕ)
+    → FollowsSeen b p (record s { progress = SentJob job })
     → x ≡ command_in (slice_index job.buf)
     → tpm ≡ values_after b.tpm (Executed x ∷ executed b p)
     → buf ≡ followed_by_zeros (answer b.tpm (executed b p) x)
     → length (answer b.tpm (executed b p) x) ≤ 3968
-    → Steps b p (Some Work) (replied.Exec job.number) (record { device = s.device; tpm = tpm; progress = ExecutedJob (record { number = job.number; outcome = Done; buf = buf }); spare = job.buf })
+    → StepsSeen b p (Some Work) (replied.Exec job.number) (record { device = s.device; tpm = tpm; progress = ExecutedJob (record { number = job.number; outcome = Done; buf = buf }); spare = job.buf })
 executed-steps b p s job x tpm buf follows is_x values response few = go (collected s.device).slot refl follows.job
   where
-    go : (slot : Slot) → (collected s.device).slot ≡ slot → IsJobAfter b p slot (SentJob job) → Steps b p (Some Work) (replied.Exec job.number) (record { device = s.device; tpm = tpm; progress = ExecutedJob (record { number = job.number; outcome = Done; buf = buf }); spare = job.buf })
+    go : (slot : Slot) → (collected s.device).slot ≡ slot → IsJobAfter b p slot (SentJob job) → StepsSeen b p (Some Work) (replied.Exec job.number) (record { device = s.device; tpm = tpm; progress = ExecutedJob (record { number = job.number; outcome = Done; buf = buf }); spare = job.buf })
     go (Home bytes) here is = absurd is
     go (Queued j) here is = absurd is
     go (Answered j) here is = absurd is
@@ -178,7 +178,7 @@ executed-steps b p s job x tpm buf follows is_x values response few = go (collec
           };
         }
 
-idle_not_lost : Idle ≡ Lost → ⊥
+pub idle_not_lost : Idle ≡ Lost → ⊥
 idle_not_lost e = cc
 
 done_not_lost : (phase : Phase) → phase ≡ Execution → phase_at_end Done phase ≡ Lost → ⊥
@@ -188,17 +188,17 @@ cancelled_not_lost : (phase : Phase) → phase ≡ Execution → phase_at_end Ca
 cancelled_not_lost phase is e = let wrong : phase_at_end Cancelled Execution ≡ Lost = rw is at e in cc
 
 -- where no answer stands, the slot is what the device shows
-raw_slot : (d : DeviceState) (slot : Slot) → d.slot ≡ slot → (collected_at slot d).slot ≡ ClaimedSlot → d.slot ≡ ClaimedSlot
+pub raw_slot : (d : DeviceState) (slot : Slot) → d.slot ≡ slot → (collected_at slot d).slot ≡ ClaimedSlot → d.slot ≡ ClaimedSlot
 raw_slot d (Home bytes) here is = is
 raw_slot d (Queued j) here is = is
 raw_slot d ClaimedSlot here is = is
 raw_slot d (Answered j) here is = cc
 
 -- the command is done
-pub done-steps : (b : Base) (p : History) (s : Session) (a : Answer) → Follows b p (record s { progress = ExecutedJob a }) → Steps b p (Some Work) (replied.Done a.number) (record s { device = record s.device { slot = Answered a }; progress = NoJob })
+pub done-steps : (b : Base) (p : History) (s : Seen) (a : Answer) → FollowsSeen b p (record s { progress = ExecutedJob a }) → StepsSeen b p (Some Work) (replied.Done a.number) (record s { device = record s.device { slot = Answered a }; progress = NoJob })
 done-steps b p s a follows = go (collected s.device).slot refl follows.job
   where
-    go : (slot : Slot) → (collected s.device).slot ≡ slot → IsJobAfter b p slot (ExecutedJob a) → Steps b p (Some Work) (replied.Done a.number) (record s { device = record s.device { slot = Answered a }; progress = NoJob })
+    go : (slot : Slot) → (collected s.device).slot ≡ slot → IsJobAfter b p slot (ExecutedJob a) → StepsSeen b p (Some Work) (replied.Done a.number) (record s { device = record s.device { slot = Answered a }; progress = NoJob })
     go (Home bytes) here is = absurd is
     go (Queued j) here is = absurd is
     go (Answered j) here is = absurd is
@@ -227,7 +227,7 @@ done-steps b p s a follows = go (collected s.device).slot refl follows.job
         }
 
 -- a new session
-pub new-follows : (spare : List ℕ) (tpm : TpmParts) → spare ≡ zeros 3968 → IsFit tpm → tpm ≡ start.tpm → tpm ≡ values_after start.tpm [] → Follows start [] (record { device = fresh_state; tpm = tpm; progress = NoJob; spare = spare })
+pub new-follows : (spare : List ℕ) (tpm : TpmParts) → spare ≡ zeros 3968 → IsFit tpm → tpm ≡ start.tpm → tpm ≡ values_after start.tpm [] → FollowsSeen start [] (record { device = fresh_state; tpm = tpm; progress = NoJob; spare = spare })
 new-follows spare tpm empty fit is past = record {
   device = record { regs = refl; number = refl; bytes = record { size = length-zeros 3968; each = λ i lt. refl } };
   job = refl;
@@ -241,10 +241,10 @@ not_waiting : Claimed ≡ Waiting → ⊥
 not_waiting e = cc
 
 -- the command ends as cancelled
-pub cancelled-steps : (b : Base) (p : History) (s : Session) (job : Job) → job.cancelled ≡ true → Follows b p (record s { progress = ClaimedJob job }) → Steps b p (Some Work) (replied.Cancelled job.number) (record s { device = record s.device { slot = Answered (record { number = job.number; outcome = Cancelled; buf = followed_by_zeros cancelled }) }; progress = NoJob })
+pub cancelled-steps : (b : Base) (p : History) (s : Seen) (job : Job) → job.cancelled ≡ true → FollowsSeen b p (record s { progress = ClaimedJob job }) → StepsSeen b p (Some Work) (replied.Cancelled job.number) (record s { device = record s.device { slot = Answered (record { number = job.number; outcome = Cancelled; buf = followed_by_zeros cancelled }) }; progress = NoJob })
 cancelled-steps b p s job held follows = go (collected s.device).slot refl follows.job
   where
-    go : (slot : Slot) → (collected s.device).slot ≡ slot → IsJobAfter b p slot (ClaimedJob job) → Steps b p (Some Work) (replied.Cancelled job.number) (record s { device = record s.device { slot = Answered (record { number = job.number; outcome = Cancelled; buf = followed_by_zeros cancelled }) }; progress = NoJob })
+    go : (slot : Slot) → (collected s.device).slot ≡ slot → IsJobAfter b p slot (ClaimedJob job) → StepsSeen b p (Some Work) (replied.Cancelled job.number) (record s { device = record s.device { slot = Answered (record { number = job.number; outcome = Cancelled; buf = followed_by_zeros cancelled }) }; progress = NoJob })
     go (Home bytes) here is = absurd is
     go (Queued j) here is = absurd is
     go (Answered j) here is = absurd is
@@ -272,3 +272,59 @@ cancelled-steps b p s job held follows = go (collected s.device).slot refl follo
             working = λ lost. cancelled_not_lost (phase_of b p) is.at.executing lost;
           };
         }
+
+-- what is seen of a session leads on, and its port has the right job in hand
+pub joined : (b : Base) (p : History) (line : Option Line) (reply : Reply) (new : Session) (v : Seen) → seen new ≡ v → StepsSeen b p line reply v → HasInHand plain new.device → Steps b p line reply new
+joined b p line reply new v is steps hand = record {
+  answers = steps.answers;
+  legal = steps.legal;
+  follows = record { seen = subst (λ (x : Seen). FollowsSeen b (with_event line reply p) x) (sym is) steps.follows; hand = hand };
+}
+
+pub the_same : {A : Type 0} (x y : A) → Some x ≡ Some y → x ≡ y
+the_same x y is = cc
+
+-- with no job in hand none is claimed
+pub hand-empty : (b : Base) (p : History) (s : Seen) (progress : Progress) → s.progress ≡ progress → progress ≡ NoJob → FollowsSeen b p s → hand_at s.device.slot s.device.number ≡ None
+hand-empty b p s progress here none follows = go s.device.slot refl (rw (here, none) at follows.job)
+  where
+    go : (slot : Slot) → s.device.slot ≡ slot → IsJobAfter b p (collected_at slot s.device).slot NoJob → hand_at slot s.device.number ≡ None
+    go (Home bytes) at job = refl
+    go (Queued j) at job = refl
+    go (Answered a) at job = refl
+    go ClaimedSlot at job = absurd (rw at at job)
+
+-- the claimed job is the one in hand
+pub hand-claimed : (b : Base) (p : History) (s : Seen) (job : Job) → FollowsSeen b p (record s { progress = ClaimedJob job }) → hand_at s.device.slot s.device.number ≡ Some job.number
+hand-claimed b p s job follows = go (collected s.device).slot refl follows.job
+  where
+    go : (slot : Slot) → (collected s.device).slot ≡ slot → IsJobAfter b p slot (ClaimedJob job) → hand_at s.device.slot s.device.number ≡ Some job.number
+    go (Home bytes) here is = absurd is
+    go (Queued j) here is = absurd is
+    go (Answered j) here is = absurd is
+    go ClaimedSlot here is =
+        let raw : s.device.slot ≡ ClaimedSlot = raw_slot s.device s.device.slot refl here in
+        let same : collected s.device ≡ s.device = rw raw refl in
+        let device : IsDeviceAfter b p s.device = rw same at follows.device in
+        rw raw (ap Some (device.number ∙ sym is.number))
+
+-- and so is the executed one
+pub hand-executed : (b : Base) (p : History) (s : Seen) (a : Answer) → FollowsSeen b p (record s { progress = ExecutedJob a }) → hand_at s.device.slot s.device.number ≡ Some a.number
+hand-executed b p s a follows = go (collected s.device).slot refl follows.job
+  where
+    go : (slot : Slot) → (collected s.device).slot ≡ slot → IsJobAfter b p slot (ExecutedJob a) → hand_at s.device.slot s.device.number ≡ Some a.number
+    go (Home bytes) here is = absurd is
+    go (Queued j) here is = absurd is
+    go (Answered j) here is = absurd is
+    go ClaimedSlot here is =
+        let raw : s.device.slot ≡ ClaimedSlot = raw_slot s.device s.device.slot refl here in
+        let same : collected s.device ≡ s.device = rw raw refl in
+        let device : IsDeviceAfter b p s.device = rw same at follows.device in
+        rw raw (ap Some (device.number ∙ sym is.number))
+
+-- a new session
+pub new-joined : (new : Session) → Some (seen new).device ≡ Some fresh_state → HasInHand plain new.device → FollowsSeen start [] (record (seen new) { device = fresh_state }) → Follows start [] new
+new-joined new told hand follows = record {
+  seen = subst (λ (d : DeviceState). FollowsSeen start [] (record (seen new) { device = d })) (sym (the_same _ _ told)) follows;
+  hand = hand;
+}

@@ -1,6 +1,6 @@
 -- A write of the guest keeps the device with its history.
-use Rattle.std.proofs.Common.{◌≡◌, ℕ, ◌+◌, ◌-◌, ◌%◌, ◌^◌, ◌≤◌, Bool, true, false, ◌&&◌, List, ◌∷◌, refl, ap, sym, ◌∙◌, arith, Some, None, cond, ◌||◌, inl, inr, ◌⊎◌}
-use Rattle.std.specs.Prelude.{Option, is_some, unwrap_or, slice_index, nat_le, nat_lt, if◌then◌else◌}
+use Rattle.std.proofs.Common.{◌≡◌, ℕ, ◌+◌, ◌-◌, ◌%◌, ◌^◌, ◌≤◌, Bool, true, false, ◌&&◌, List, ◌∷◌, refl, ap, ◌∙◌, arith, Some, None, cond, ◌||◌, inl, inr, ◌⊎◌}
+use Rattle.std.specs.Prelude.{Option, is_some, slice_index, nat_le, nat_lt, if◌then◌else◌}
 use Rattle.std.proofs.lemmas.Bool.Decides.{nat_tests}
 use Rattle.vt_base.proofs.Zeros.{length-zeros, get_or-zeros}
 use Rattle.crb_regs.specs.LittleEndian.{byte_of}
@@ -18,14 +18,13 @@ use Rattle.crb_regs.specs.declared.phase.Phase.{Phase}
 use Rattle.crb_regs.specs.declared.phase.Phase.TheVariants.{Execution}
 use Rattle.crb_regs.specs.declared.effect.Effect.{Effect}
 use Rattle.crb_regs.specs.declared.effect.Effect.TheVariants.{Buffer, CmdReady, GoIdle, Start, Cancel, Request, Relinquish, Nothing}
-use Rattle.crb_machine.specs.State.{DeviceState, is_home}
+use Rattle.crb_machine.specs.State.{DeviceState, Slot}
 use Rattle.crb_machine.specs.Content.{slot_after}
 use Rattle.crb_machine.specs.Steps.{written, written_to, number_after, is_start}
-use Rattle.crb_machine.specs.declared.slot.Job.{Job}
-use Rattle.crb_machine.specs.declared.slot.Answer.{Answer}
+use Rattle.crb_port.specs.declared.job.Job.{Job}
+use Rattle.crb_port.specs.declared.job.Answer.{Answer}
 use Rattle.crb_history.specs.Asked.{held_back, sets_cancel, is_waiting}
-use Rattle.crb_machine.specs.declared.slot.Slot.{Slot}
-use Rattle.crb_machine.specs.declared.slot.Slot.TheVariants.{Home, Queued, Claimed as ClaimedSlot, Answered}
+use Rattle.crb_machine.specs.State.Slot.{Home, Queued, Claimed as ClaimedSlot, Answered}
 use Rattle.crbsim.specs.declared.session.Progress.{Progress}
 use Rattle.crbsim.specs.declared.session.Progress.TheVariants.{Idle as NoJob, Claimed as ClaimedJob, Sent as SentJob, Executed as ExecutedJob}
 use Rattle.crbsim.specs.Follows.{HoldsBytes, HoldsBuffer, IsDeviceAfter, IsLastJob, IsJobAfter, gone_through}

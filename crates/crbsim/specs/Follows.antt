@@ -3,16 +3,18 @@ use Rattle.std.specs.Prelude.{◌≡◌, ◌≢◌, ℕ, ◌<◌, ◌≤◌, fal
 use Rattle.vt_base.specs.Buffer.{followed_by_zeros}
 use Rattle.crb_regs.specs.Registers.{is_executing}
 use Rattle.crb_regs.specs.declared.phase.Phase.TheVariants.{Lost}
-use Rattle.crb_machine.specs.State.{DeviceState}
+use Rattle.crb_machine.specs.Over.{plain_device, HasInHand}
+use Rattle.crb_machine.specs.State.{DeviceState, Slot}
+use Rattle.crb_machine.specs.State.Slot.{Home, Queued, Claimed as ClaimedSlot}
 use Rattle.crb_machine.specs.Steps.{collected}
-use Rattle.crb_machine.specs.declared.slot.Job.{Job}
-use Rattle.crb_machine.specs.declared.slot.Answer.{Answer}
-use Rattle.crb_machine.specs.declared.slot.Outcome.TheVariants.{Done}
-use Rattle.crb_machine.specs.declared.slot.Slot.{Slot}
-use Rattle.crb_machine.specs.declared.slot.Slot.TheVariants.{Home, Queued, Claimed as ClaimedSlot}
+use Rattle.crb_port.specs.Plain.{plain}
+use Rattle.crb_port.specs.declared.job.Job.{Job}
+use Rattle.crb_port.specs.declared.job.Answer.{Answer}
+use Rattle.crb_port.specs.declared.job.Outcome.TheVariants.{Done}
 use Rattle.tpm_core.specs.Answers.{Entry, answer, values_after}
 use Rattle.tpm_core.specs.Answers.Entry.{Executed}
 use Rattle.tpm_core.specs.Steps.{IsFit}
+use Rattle.tpm_core.specs.declared.parts.TpmParts.{TpmParts}
 use Rattle.crb_history.specs.Base.{Base}
 use Rattle.crb_history.specs.Bytes.{command_in}
 use Rattle.crb_history.specs.Event.{History}
@@ -72,13 +74,33 @@ abbrev pub gone_through : Base → History → Progress → List Entry
 gone_through b p (ExecutedJob a) = Executed (last_command b p) ∷ executed b p
 gone_through b p _ = executed b p
 
-pub record Follows (b : Base) (p : History) (s : Session) : Type 0 where
+-- a session with its device as the plain machine that it is
+pub record Seen : Type 0 where
+  pub device : DeviceState
+  pub tpm : TpmParts
+  pub progress : Progress
+  pub spare : List ℕ
+
+abbrev pub seen : Session → Seen
+seen s = record { device = plain_device s.device; tpm = s.tpm; progress = s.progress; spare = s.spare }
+
+pub record FollowsSeen (b : Base) (p : History) (s : Seen) : Type 0 where
   pub device : IsDeviceAfter b p (collected s.device)
   pub job : IsJobAfter b p (collected s.device).slot s.progress
   pub tpm : s.tpm ≡ values_after b.tpm (gone_through b p s.progress)
   pub fit : IsFit b.tpm
   pub spare : length s.spare ≡ 3968
   pub working : phase_of b p ≢ Lost
+
+-- the session is where the history leads, and its port has in hand what its device's claimed job is
+pub record Follows (b : Base) (p : History) (s : Session) : Type 0 where
+  pub seen : FollowsSeen b p (seen s)
+  pub hand : HasInHand plain s.device
+
+pub record StepsSeen (b : Base) (p : History) (line : Option Line) (reply : Reply) (new : Seen) : Type 0 where
+  pub answers : Answers b p line reply
+  pub legal : Legal b p → Legal b (with_event line reply p)
+  pub follows : FollowsSeen b (with_event line reply p) new
 
 -- one line and its reply lead on
 pub record Steps (b : Base) (p : History) (line : Option Line) (reply : Reply) (new : Session) : Type 0 where

@@ -1,4 +1,6 @@
 pub mod Start
 pub mod Follows
+pub mod Bus
+pub mod Driven
 pub mod Run
 pub mod Loop

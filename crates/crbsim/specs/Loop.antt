@@ -1,20 +1,38 @@
--- Where the loop over the lines stands.
+-- Where the loops over the lines stand.
 use Rattle.std.specs.Prelude.{◌≡◌, ℕ, List, ◌++◌, Option}
 use Rattle.std.specs.Io.KnownBytes.{Appends}
+use Rattle.crb_history.specs.Device.{executed}
+use Rattle.crb_history.specs.Event.{History}
 use Rattle.crb_history.specs.Replies.{Transcript, IsRun, history}
+use Rattle.vt_script.specs.Drive.{drive_of}
+use Rattle.vt_script.specs.Script.{event_of}
+use Rattle.vt_script.specs.declared.drive.DriveLine.{DriveLine}
+use Rattle.crbsim.specs.Bus.{IsAtRest}
+use Rattle.crbsim.specs.Driven.{past_of}
 use Rattle.crbsim.specs.Start.{start}
 use Rattle.crbsim.specs.Follows.{Follows}
-use Rattle.crbsim.specs.Run.{meanings, lines_in, texts}
+use Rattle.crbsim.specs.Run.{meanings, in_order, line_of, spelled}
 use Rattle.crbsim.specs.declared.session.Session.{Session}
 
--- the lines of the transcript are done and these bytes are left, and the session follows the history
+-- these lines are done and these bytes are left
+abbrev pub AreDone : {L : Type 0} → (List ℕ → Option L) → List ℕ → List ℕ → List (Option L) → Type 0
+AreDone grammar script rest done = meanings grammar script ≡ done ++ meanings grammar rest
+
+-- the lines of the transcript are done, and the session follows the history
 pub record StandsAt (script rest : List ℕ) (t : Transcript) (session : Session) : Type 0 where
-  pub lines : meanings script ≡ lines_in t ++ meanings rest
+  pub lines : AreDone event_of script rest (in_order line_of t)
   pub run : IsRun start t
   pub follows : Follows start (history t) session
 
--- the replies so far are written, but for those that wait
-pub record HasWritten (old now : Option (List ℕ)) (waiting : List ℕ) (t : Transcript) : Type 0 where
+-- the commands of these lines are done, and the session waits for the next
+pub record DrivesAt (script rest : List ℕ) (lines : List DriveLine) (session : Session) : Type 0 where
+  pub done : AreDone drive_of script rest (in_order spelled lines)
+  pub history : History
+  pub rest_at : IsAtRest start history session
+  pub past : executed start history ≡ past_of lines
+
+-- the output so far is written, but for what waits
+pub record HasWritten (old now : Option (List ℕ)) (waiting output : List ℕ) : Type 0 where
   pub written : List ℕ
   pub appends : Appends old now written
-  pub whole : written ++ waiting ≡ texts t
+  pub whole : written ++ waiting ≡ output

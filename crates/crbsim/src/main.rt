@@ -1,6 +1,11 @@
-//! Runs scripts of guest accesses and worker steps on one CRB device over one TPM, in one process.
+//! Runs scripts on one CRB device over one TPM, in one process: of guest accesses and worker steps, or of commands that a
+//! polling driver sends.
 #![tactic(auto)]
 
+mod bus;
+mod drive;
+mod output;
+mod replay;
 mod run;
 mod session;
 #[cfg(test)]

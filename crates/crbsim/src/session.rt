@@ -7,7 +7,8 @@ ghost use Rattle.vt_script.specs.Replies.{IsPrintable};
 ghost use Rattle.crbsim.specs.Start.{start};
 
 use crb_history::command_of;
-use crb_machine::{Answer, Device, Job, Outcome};
+use crb_machine::{Device, NotYet};
+use crb_port::{Answer, Job, Outcome, PlainPort, WorkPort};
 use crb_regs::Access;
 use std::alloc::{AllocError, Global};
 use std::mem;
@@ -32,7 +33,7 @@ pub enum Progress {
 /// A device, a TPM, and a worker that takes jobs from the one to the other.
 #[derive(Drop)]
 pub struct Session {
-    pub device: Device,
+    pub device: Device<PlainPort>,
     pub tpm: Tpm,
     pub progress: Progress,
     /// Takes the next response; it changes places with the buffer of the command.
@@ -46,7 +47,7 @@ impl Session {
     {
         let mut tpm = Tpm::manufacture([0; 32]);
         tpm.power_on();
-        let device = Device::new(alloc)?;
+        let device = Device::new(alloc, PlainPort::new())?;
         let spare = Buf::new(alloc)?;
         Ok(Session {
             device,
@@ -65,6 +66,7 @@ impl Session {
         match line {
             Event::Access(access) => self.access(access),
             Event::Work => self.work(),
+            Event::Reset => self.reset(),
         }
     }
 
@@ -103,7 +105,8 @@ impl Session {
 
     // Claims a job, if one waits.
     fn claim(&mut self) -> Reply
-        requires { self.old.progress ≡ Progress.Idle }
+        requires idle { self.old.progress ≡ Progress.Idle }
+        requires known { (b : Base) × (p : History) × Follows b p self.old }
         ensures steps { (b : Base) (p : History) → Follows b p self.old → Steps b p (Some Event.Work) result self.new }
         ensures printable { IsPrintable result }
     {
@@ -166,5 +169,19 @@ impl Session {
         let number = answer.number;
         self.device.post(answer);
         Reply::Done(number)
+    }
+
+    // Resets the device and powers the TPM on anew, unless a job is claimed.
+    fn reset(&mut self) -> Reply
+        ensures steps { (b : Base) (p : History) → Follows b p self.old → Steps b p (Some Event.Reset) result self.new }
+        ensures printable { IsPrintable result }
+    {
+        match self.device.reset() {
+            Ok(()) => {
+                self.tpm.power_on();
+                Reply::Reset
+            }
+            Err(NotYet { .. }) => Reply::NotYet,
+        }
     }
 }

@@ -30,6 +30,10 @@ fn replayed(alloc: Global, script: &[u8]) -> Result<(Status, Vec<u8>), AllocErro
     ran(alloc, &["replay"], script, &[], AMPLE, &[])
 }
 
+fn driven(alloc: Global, script: &[u8]) -> Result<(Status, Vec<u8>), AllocError> {
+    ran(alloc, &["drive"], script, &[], AMPLE, &[])
+}
+
 #[test]
 fn scripts_are_answered(rt: HostRuntime) -> Result<(), Fail> {
     let cases = [
@@ -75,7 +79,7 @@ fn scripts_are_answered(rt: HostRuntime) -> Result<(), Fail> {
         ("r 0 4\nx\n", Status::Script, "00000081\nbad line 2\n"),
         ("r ffd 4\n", Status::Script, "bad line 1\n"),
         ("work\n\nwork\n", Status::Script, "idle\nbad line 2\n"),
-        ("w 48 4 1\n", Status::Script, "bad line 1\n"),
+        ("reset \n", Status::Script, "bad line 1\n"),
     ];
     for (script, status, output) in cases {
         let (answer, written) = replayed(rt.alloc(), script.as_bytes())?;
@@ -86,9 +90,117 @@ fn scripts_are_answered(rt: HostRuntime) -> Result<(), Fail> {
 }
 
 #[test]
+fn commands_are_answered(rt: HostRuntime) -> Result<(), Fail> {
+    let cases = [
+        // No command is sent.
+        ("", Status::Ok, ""),
+        // A register is extended and read: it holds the SHA-256 of 64 zero bytes.
+        (
+            "cmd 80010000000c000001440000\n\
+             cmd 80020000004100000182000000000000000940000009000001000000000001000b0000000000000000000000000000000000000000000000000000000000000000\n\
+             cmd 8001000000140000017e00000001000b03010000\n",
+            Status::Ok,
+            "80010000000a00000000\n\
+             80020000001300000000000000000000010000\n\
+             80010000003e000000000000000100000001000b03010000000000010020f5a5fd42d16a20302798ef6ed309979b43003d2320d9f0e8ea9831a92759fb4b\n",
+        ),
+        // A register that can't be extended, a tag without sessions, and a register that isn't there.
+        (
+            "cmd 80010000000c000001440000\n\
+             cmd 80020000004100000182000000110000000940000009000001000000000001000b0000000000000000000000000000000000000000000000000000000000000000\n\
+             cmd 80010000004100000182000000000000000940000009000001000000000001000b0000000000000000000000000000000000000000000000000000000000000000\n\
+             cmd 80020000004100000182000000180000000940000009000001000000000001000b0000000000000000000000000000000000000000000000000000000000000000\n",
+            Status::Ok,
+            "80010000000a00000000\n80010000000a00000907\n80010000000a00000125\n80010000000a00000184\n",
+        ),
+        // The last line needs no LF, and digits are of either case.
+        (
+            "cmd 80010000000C000001440000",
+            Status::Ok,
+            "80010000000a00000000\n",
+        ),
+        // Lines that aren't in the grammar: a size field that isn't the length, too few bytes, a line of another command.
+        (
+            "cmd 80010000000c000001440000\ncmd 80010000000d000001440000\n",
+            Status::Script,
+            "80010000000a00000000\nbad line 2\n",
+        ),
+        ("cmd 800100000009000001\n", Status::Script, "bad line 1\n"),
+        ("work\n", Status::Script, "bad line 1\n"),
+        (
+            "cmd 80010000000c000001440000\n\n",
+            Status::Script,
+            "80010000000a00000000\nbad line 2\n",
+        ),
+    ];
+    for (script, status, output) in cases {
+        let (answer, written) = driven(rt.alloc(), script.as_bytes())?;
+        assert_eq!(rt; answer, status, "{script}");
+        assert_eq!(rt; written.as_slice(), output.as_bytes(), "{script}");
+    }
+    Ok(())
+}
+
+// TPM2_Startup(CLEAR) is written and started.
+const STARTUP: &str = "w 8 4 1\nw 40 4 1\nw 80 4 180\nw 84 4 c00\nw 88 4 4401\nw 4c 4 1\n";
+
+const STARTUP_REPLIES: &str = "ok\nok\nok\nok\nok\nok\n";
+
+#[test]
+fn a_command_is_cancelled_or_reset(rt: HostRuntime) -> Result<(), Fail> {
+    let cases = [
+        // Cancelled before its claim; the next command shows that it was never executed.
+        (
+            "w 48 4 1\nwork\nwork\nr 88 4\nw 40 4 1\nw 48 4 0\nw 80 4 180\nw 84 4 c00\nw 88 4 7b01\nw 4c 4 1\nwork\nwork\nwork\nwork\nr 88 4\n",
+            "ok\nclaim 1\ncancelled 1\n00000909\nok\nok\nok\nok\nok\nok\nclaim 2\nsent 2\nexec 2\ndone 2\n00000001\n",
+        ),
+        // Cancelled after its claim: it is done.
+        (
+            "work\nw 48 4 1\nwork\nwork\nwork\nr 88 4\nr 48 4\n",
+            "claim 1\nok\nsent 1\nexec 1\ndone 1\n00000000\n00000001\n",
+        ),
+        // A written 0 doesn't take a cancel back.
+        (
+            "w 48 4 1\nw 48 4 0\nwork\nwork\n",
+            "ok\nok\nclaim 1\ncancelled 1\n",
+        ),
+        // Started while CANCEL is 1.
+        (
+            "reset\nw 8 4 1\nw 40 4 1\nw 48 4 1\nw 80 4 180\nw 4c 4 1\nw 48 4 0\nwork\nwork\nr 80 4\n",
+            "reset\nok\nok\nok\nok\nok\nok\nclaim 2\ncancelled 2\n00000180\n",
+        ),
+        // A reset before the claim: the command is never executed.
+        (
+            "reset\nr 4c 4\nr 8 4\nr 44 4\nwork\n",
+            "reset\n00000000\n00000000\n00000002\nidle\n",
+        ),
+        // A reset while the command is claimed comes too early.
+        (
+            "work\nreset\nwork\nwork\nwork\nreset\nr 0 4\n",
+            "claim 1\nnot yet\nsent 1\nexec 1\ndone 1\nreset\n00000081\n",
+        ),
+    ];
+    for (lines, replies) in cases {
+        let script = format!(in rt.alloc(); "{STARTUP}{lines}")?;
+        let output = format!(in rt.alloc(); "{STARTUP_REPLIES}{replies}")?;
+        let (status, written) = replayed(rt.alloc(), script.as_bytes())?;
+        assert_eq!(rt; status, Status::Ok, "{lines}");
+        assert_eq!(rt; written.as_slice(), output.as_bytes(), "{lines}");
+    }
+    Ok(())
+}
+
+#[test]
 fn other_words_are_answered_by_the_usage(rt: HostRuntime) -> Result<(), Fail> {
     let usage = b"usage: crbsim replay, drive, suspend, resume, check or bulk\n".as_slice();
-    let cases: [&[&str]; 4] = [&[], &["play"], &["replay", "replay"], &["Replay"]];
+    let cases: [&[&str]; 6] = [
+        &[],
+        &["play"],
+        &["replay", "replay"],
+        &["Replay"],
+        &["drive", "replay"],
+        &["driven"],
+    ];
     for words in cases {
         let (status, written) = ran(rt.alloc(), words, b"work\n", &[], AMPLE, &[])?;
         assert_eq!(rt; status, Status::Usage);
@@ -102,6 +214,9 @@ fn an_input_has_a_limit(rt: HostRuntime) -> Result<(), Fail> {
     let mut input = Vec::new(rt.alloc());
     input.resize(1_048_577, b'x')?;
     let (status, written) = replayed(rt.alloc(), &input)?;
+    assert_eq!(rt; status, Status::Limit);
+    assert_eq!(rt; written.as_slice(), b"long input\n".as_slice());
+    let (status, written) = driven(rt.alloc(), &input)?;
     assert_eq!(rt; status, Status::Limit);
     assert_eq!(rt; written.as_slice(), b"long input\n".as_slice());
     input.pop();
@@ -125,6 +240,15 @@ fn faults_of_the_outside_are_told(rt: HostRuntime) -> Result<(), Fail> {
     let (status, written) = ran(alloc, &["replay"], b"work\nr 0 4\n", &[], 7, &[])?;
     assert_eq!(rt; status, Status::WriteFault);
     assert_eq!(rt; written.as_slice(), b"idle\n00".as_slice());
+    let script = b"cmd 80010000000c000001440000\ncmd 80010000000c000001440000\n";
+    let (status, written) = ran(alloc, &["drive"], script, &[], 25, &[])?;
+    assert_eq!(rt; status, Status::WriteFault);
+    assert_eq!(rt;
+        written.as_slice(),
+        b"80010000000a00000000\n8001".as_slice()
+    );
+    let (status, written) = ran(alloc, &["drive"], script, &[1], AMPLE, &[])?;
+    assert_eq!(rt; (status, written.len()), (Status::ReadFault, 0));
     let (status, written) = ran(alloc, &["play"], b"", &[], 5, &[])?;
     assert_eq!(rt; status, Status::WriteFault);
     assert_eq!(rt; written.as_slice(), b"usage".as_slice());
@@ -145,6 +269,31 @@ fn many_replies_are_written_in_parts(rt: HostRuntime) -> Result<(), Fail> {
     assert!(rt; written == output);
     // The second part can't be written.
     let (status, written) = ran(alloc, &["replay"], &script, &[], AMPLE, &[2])?;
+    assert_eq!(rt; status, Status::WriteFault);
+    assert!(rt; output.starts_with(&written) && !written.is_empty());
+    Ok(())
+}
+
+#[test]
+fn many_responses_are_written_in_parts(rt: HostRuntime) -> Result<(), Fail> {
+    let alloc = rt.alloc();
+    let mut script = Vec::new(alloc);
+    let mut output = Vec::new(alloc);
+    for i in 0..1_600 {
+        script.extend_from_slice(b"cmd 80010000000c000001440000\n")?;
+        // A TPM is started once.
+        let response = if i == 0 {
+            b"80010000000a00000000\n"
+        } else {
+            b"80010000000a00000100\n"
+        };
+        output.extend_from_slice(response)?;
+    }
+    let (status, written) = driven(alloc, &script)?;
+    assert_eq!(rt; status, Status::Ok);
+    assert!(rt; written == output);
+    // The second part can't be written.
+    let (status, written) = ran(alloc, &["drive"], &script, &[], AMPLE, &[2])?;
     assert_eq!(rt; status, Status::WriteFault);
     assert!(rt; output.starts_with(&written) && !written.is_empty());
     Ok(())

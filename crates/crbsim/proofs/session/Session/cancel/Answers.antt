@@ -1,7 +1,19 @@
-use Rattle.crbsim.proofs.Sessions.{cancelled-steps}
+use Rattle.std.proofs.Common.{ap, ◌∙◌}
+use Rattle.crb_machine.specs.State.{DeviceState}
+use Rattle.crbsim.specs.declared.session.Progress.TheVariants.{Idle as NoJob}
+use Rattle.crbsim.specs.Follows.{seen}
+use Rattle.crbsim.proofs.Sessions.{cancelled-steps, joined, the_same, hand-claimed}
 use Rattle.crbsim.proofs.session.Session.cancel.Goals as goal
+
+pub post-requires : goal.post-requires
+post-requires c =
+    let known = c.requires.known in
+    record { in_hand = known.2.hand ∙ hand-claimed known.0 known.1 (seen c.args.self.now) c.args.job known.2.seen }
 
 pub returns-clause-steps : goal.returns-clause-steps
 returns-clause-steps c = λ b p follows.
-    rw (c.post.ensures, c.write_short.ensures.response, c.requires.idle)
-    (cancelled-steps b p c.args.self.now c.args.job c.requires.held follows)
+    let device = the_same _ _ c.post.ensures.told in
+    rw c.requires.idle
+    (joined b p _ _ _ _ (ap (λ (d : DeviceState). record (seen c.args.self.now) { device = d; progress = NoJob }) device)
+    (rw c.write_short.ensures.response (cancelled-steps b p (seen c.args.self.now) c.args.job c.requires.held follows.seen))
+    c.post.ensures.hand)

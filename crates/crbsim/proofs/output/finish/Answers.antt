@@ -1,5 +1,5 @@
 use Rattle.crbsim.proofs.Endings.{finishes-first, finishes-next}
-use Rattle.crbsim.proofs.run.finish.Goals as goal
+use Rattle.crbsim.proofs.output.finish.Goals as goal
 
 pub returns-in_default-clause-writes : goal.returns-in_default-clause-writes
 returns-in_default-clause-writes g c = finishes-first c.args.status _ _ c.args.waiting.now c.args.text.now c.in_default.ensures.all

@@ -1,0 +1,88 @@
+//! The command `drive`: a driver does the command of each line, and the response is written.
+ghost use Rattle.std.specs.Prelude.{◌≡◌, ◌≢◌, ◌≤◌, OnOk, OnErr, length, take};
+ghost use Rattle.vt_base.specs.Faults.{Rose};
+ghost use Rattle.vt_script.specs.Drive.{HasWellSized, IsWellSized};
+ghost use Rattle.crb_history.specs.Base.{Base};
+ghost use Rattle.crb_history.specs.Event.{History};
+ghost use Rattle.crbsim.specs.Bus.{Calls, IsAtRest, Responds};
+ghost use Rattle.crbsim.specs.Run.{IsShort, Writes, driven_by};
+
+use crate::output::{bad_line, finish, spill};
+use crate::session::Session;
+use crb_driver::Driver;
+use std::alloc::{AllocError, Global};
+use tpm_core::laws::answers_are_responses;
+use vt_base::{BUFFER_LENGTH, Sink, Status};
+use vt_script::{DriveLine, first_line, parse_drive, print_response};
+
+/// How often START is read before a command is given up. Four steps of the worker end each command.
+const POLLS: u32 = 8;
+
+/// Does the commands of a script's lines on a new device, and writes the response to each.
+pub fn drive<K: Sink>(alloc: Global, script: &[u8], sink: &mut K) -> Status
+    requires { IsShort script.now }
+    ensures writes { Writes result (driven_by script.now) (K.written sink.old) (K.written sink.new) }
+    ensures usage { result ≢ Status.Usage }
+    ensures read { result ≢ Status.ReadFault }
+    ensures write_fault { result ≡ Status.WriteFault → Rose (K.faults sink.old) (K.faults sink.new) }
+{
+    let Ok(mut session) = Session::new(alloc) else {
+        return Status::Memory;
+    };
+    let mut waiting = Vec::new(alloc);
+    let mut rest = script;
+    let mut number = 0u64;
+    while !rest.is_empty() {
+        let (text, after) = first_line(rest);
+        number += 1;
+        let Ok(found) = parse_drive(alloc, text) else {
+            return finish(sink, &waiting, &[], Status::Memory);
+        };
+        let Some(line) = found else {
+            return bad_line(alloc, number, &waiting, sink);
+        };
+        let Ok(()) = respond(alloc, &mut session, &line, &mut waiting) else {
+            return finish(sink, &waiting, &[], Status::Memory);
+        };
+        let Ok(()) = spill(&mut waiting, sink) else {
+            return Status::WriteFault;
+        };
+        rest = after;
+    }
+    finish(sink, &waiting, &[], Status::Ok)
+}
+
+// Does the command of a line, and appends the text of its response.
+fn respond(
+    alloc: Global,
+    session: &mut Session,
+    line: &DriveLine,
+    into: &mut Vec<u8>,
+) -> Result<(), AllocError>
+    requires sized { HasWellSized line.now }
+    requires rests { (b : Base) × (p : History) × IsAtRest b p session.old }
+    ensures ok { OnOk result ((b : Base) (p : History) → IsAtRest b p session.old
+        → Responds b p line.now into.old.items into.new.items session.new) }
+    ensures err { OnErr result (into.new.items ≡ into.old.items) }
+{
+    let DriveLine::Cmd(command) = line;
+    let mut response = [0; BUFFER_LENGTH];
+    let count = call(session, command.as_slice(), &mut response);
+    print_response(alloc, &response[..count], into)
+}
+
+// Has a driver do a command, and gives the length of the answer, which stands at the front of `into`.
+fn call(session: &mut Session, command: &[u8], into: &mut [u8]) -> usize
+    requires sized { IsWellSized command.now }
+    requires room { BUFFER_LENGTH ≤ length into.old }
+    requires rests { (b : Base) × (p : History) × IsAtRest b p session.old }
+    ensures calls { (b : Base) (p : History) → IsAtRest b p session.old
+        → Calls b p command.now (take result into.new) session.new }
+    ensures within { result ≤ length into.new }
+{
+    answers_are_responses();
+    match Driver::new().call(session, command, into, POLLS) {
+        Ok(count) => count,
+        Err(_fault) => unreachable!(),
+    }
+}

@@ -1,0 +1,50 @@
+//! What is written: gathered output, and the texts that end it.
+ghost use Rattle.std.specs.Prelude.{◌≡◌, ◌≢◌, ◌++◌, OnOk, OnErr};
+ghost use Rattle.vt_base.specs.Faults.{HasCause, Rose};
+ghost use Rattle.vt_base.specs.Output.{AppendsFront};
+ghost use Rattle.crbsim.specs.Run.{Finishes, Spills, TellsBadLine};
+
+use std::alloc::Global;
+use vt_base::{Failed, Sink, Status, write_all};
+
+/// How many bytes of output are gathered before they are written.
+const CHUNK: usize = 32_768;
+
+/// Writes what waits and a last text.
+pub fn finish<K: Sink>(sink: &mut K, waiting: &[u8], text: &[u8], status: Status) -> Status
+    requires { status ≢ Status.WriteFault }
+    ensures writes { Finishes status (waiting.now ++ text.now) result (K.written sink.old) (K.written sink.new) }
+    ensures fault { result ≡ Status.WriteFault → Rose (K.faults sink.old) (K.faults sink.new) }
+{
+    let Ok(()) = write_all(sink, waiting) else {
+        return Status::WriteFault;
+    };
+    let Ok(()) = write_all(sink, text) else {
+        return Status::WriteFault;
+    };
+    status
+}
+
+/// Writes what waits, if it is much.
+pub fn spill<K: Sink>(waiting: &mut Vec<u8>, sink: &mut K) -> Result<(), Failed>
+    ensures ok { OnOk result (Spills (K.written sink.old) (K.written sink.new) waiting.old.items waiting.new.items) }
+    ensures err { OnErr result (AppendsFront (K.written sink.old) (K.written sink.new) waiting.old.items) }
+    ensures cause { HasCause (K.faults sink.old) (K.faults sink.new) result }
+{
+    if waiting.len() >= CHUNK {
+        write_all(sink, waiting)?;
+        waiting.clear();
+    }
+    Ok(())
+}
+
+/// Writes what waits, and the number of a line that isn't in the grammar.
+pub fn bad_line<K: Sink>(alloc: Global, number: u64, waiting: &[u8], sink: &mut K) -> Status
+    ensures tells { TellsBadLine number waiting.now result (K.written sink.old) (K.written sink.new) }
+    ensures fault { result ≡ Status.WriteFault → Rose (K.faults sink.old) (K.faults sink.new) }
+{
+    match format!(in alloc; "bad line {number}\n") {
+        Ok(text) => finish(sink, waiting, text.as_bytes(), Status::Script),
+        Err(_) => finish(sink, waiting, &[], Status::Memory),
+    }
+}
