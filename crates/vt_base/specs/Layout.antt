@@ -1,6 +1,6 @@
 -- Formats whose messages are told from the left. (Own definitions.)
 use Rattle.std.specs.Prelude.{◌≡◌, ℕ, ◌-◌, ◌≤◌, ◌<◌, List, [], length, take, drop, slice_index}
-use Rattle.std.specs.Int.{w32, w64, from_be_bytes}
+use Rattle.std.specs.Int.{w16, w32, w64, from_be_bytes}
 
 -- A message ends here, or goes on with a field of so many bytes, whose content decides what follows.
 pub data Layout (E : Type 0) : Type 0 where
@@ -11,7 +11,11 @@ pub data Layout (E : Type 0) : Type 0 where
 abbrev pub byte_then : {E : Type 0} → (ℕ → Layout E) → Layout E
 byte_then next = Field 1 (λ field. next (slice_index field 0))
 
--- a big-endian number of four bytes, likewise
+-- a big-endian number of two bytes, likewise
+abbrev pub short_then : {E : Type 0} → (ℕ → Layout E) → Layout E
+short_then next = Field 2 (λ field. next (from_be_bytes w16 field))
+
+-- one of four
 abbrev pub number_then : {E : Type 0} → (ℕ → Layout E) → Layout E
 number_then next = Field 4 (λ field. next (from_be_bytes w32 field))
 

@@ -6,6 +6,8 @@ pub mod Lending
 pub mod Memory
 pub mod Numbers
 pub mod Output
+pub mod Refusing
 pub mod Status
 pub mod Stream
 pub mod Verdict
+pub mod Within

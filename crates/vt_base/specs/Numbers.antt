@@ -1,12 +1,16 @@
 -- Bytes and the numbers that they spell. (Own definitions.)
 use Rattle.std.specs.Prelude.{ℕ, ◌<◌, List, slice_index}
-use Rattle.std.specs.Int.{w32, w64, to_be_bytes}
+use Rattle.std.specs.Int.{w16, w32, w64, to_be_bytes}
 
 -- each number of the list fits a byte
 abbrev pub IsBytes : List ℕ → Type 0
 IsBytes bytes = (i : ℕ) → slice_index bytes i < 256
 
--- a number in four bytes, the highest first
+-- a number in two bytes, the highest first
+abbrev pub short : ℕ → List ℕ
+short n = to_be_bytes w16 n
+
+-- in four
 abbrev pub number : ℕ → List ℕ
 number n = to_be_bytes w32 n
 
