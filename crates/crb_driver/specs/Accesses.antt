@@ -2,7 +2,7 @@
 use Rattle.std.specs.Prelude.{ℕ, ◌+◌, List, [], ◌∷◌, ◌++◌, map}
 use Rattle.crb_regs.specs.declared.registers.TheConstants.{LOC_CTRL, LOC_STS, CTRL_REQ, CTRL_STS, CTRL_CANCEL, CTRL_START, DATA_BUFFER}
 use Rattle.crb_driver.specs.declared.registers.TheConstants.{REQUEST_ACCESS, RELINQUISH, CMD_READY, GO_IDLE, NO_CANCEL, START, REGISTER_SIZE, BYTE_SIZE}
-use Rattle.crb_driver.specs.declared.sizes.TheConstants.{SIZE_FIELD}
+use Rattle.tpm_frame.specs.declared.sizes.TheConstants.{SIZE_FIELD}
 use Rattle.crb_driver.specs.Bus.{Exchange, reading, writing}
 
 -- a read of a register

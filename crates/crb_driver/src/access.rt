@@ -7,8 +7,8 @@ ghost use Rattle.crb_driver.specs.Accesses.{byte_reads, byte_writes, register_re
 
 use crate::bus::Bus;
 use crate::registers::{BYTE_SIZE, REGISTER_SIZE};
-use crate::sizes::{SIZE_FIELD, SIZE_FIELD_LENGTH};
 use crb_regs::{Access, DATA_BUFFER};
+use tpm_frame::{SIZE_FIELD, SIZE_FIELD_LENGTH};
 
 fn read<B: Bus>(bus: &mut B, offset: u32, size: u8) -> u64
     requires is_ready { B.ready bus.old }

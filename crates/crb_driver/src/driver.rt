@@ -2,7 +2,8 @@
 ghost use Rattle.std.specs.Prelude.{◌≡◌, ◌≤◌, ◌↔◌, IfOk, OnErr, OnOk, IfErr, IsErrOf, length, take, drop};
 ghost use Rattle.crb_driver.specs.Accesses.{collect_accesses, send_accesses};
 ghost use Rattle.crb_driver.specs.Bus.{Reaches};
-ghost use Rattle.crb_driver.specs.Sizes.{IsIllSized, IsLength, reported};
+ghost use Rattle.crb_driver.specs.Sizes.{IsIllSized, reported};
+ghost use Rattle.tpm_frame.specs.Sizes.{IsLength};
 ghost use Rattle.crb_driver.specs.Calls.{Answers, Fails, FailsToFinish, FailsToStart, Finishes, Polls, Starts, Waits};
 
 use crate::access::{read_bytes, read_register, read_size, write_bytes, write_register};
@@ -11,8 +12,9 @@ use crate::fault::DriverFault;
 use crate::registers::{
     CMD_READY, GO_IDLE, GRANTED, NO_CANCEL, RELINQUISH, REQUEST_ACCESS, START, TPM_IDLE, TPM_STS,
 };
-use crate::sizes::{is_bad_length, is_well_sized, reported_length};
+use crate::sizes::{is_bad_length, reported_length};
 use crb_regs::{CTRL_CANCEL, CTRL_REQ, CTRL_START, CTRL_STS, DATA_BUFFER, LOC_CTRL, LOC_STS};
+use tpm_frame::is_well_sized;
 
 /// A driver of one interface. It keeps nothing: what goes on is told by the bus.
 #[derive(Clone, Copy, Debug)]

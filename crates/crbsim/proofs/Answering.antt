@@ -14,7 +14,8 @@ use Rattle.tpm_core.specs.Responses.{IsResponse}
 use Rattle.crb_driver.specs.Bits.{IsSet}
 use Rattle.crb_driver.specs.Bus.{Exchange, Reaches, reading, writing}
 use Rattle.crb_driver.specs.Accesses.{start_accesses, poll_accesses, size_accesses, collect_accesses, finish_accesses, byte_reads, register_read}
-use Rattle.crb_driver.specs.Sizes.{IsWellSized, IsBadLength, reported}
+use Rattle.crb_driver.specs.Sizes.{IsBadLength, reported}
+use Rattle.tpm_frame.specs.Sizes.{IsWellSized}
 use Rattle.crb_driver.specs.Calls.{RunsThen, Answers, Fails, run_accesses}
 use Rattle.crb_driver.specs.declared.fault.DriverFault.{DriverFault}
 use Rattle.crb_driver.specs.declared.fault.DriverFault.TheVariants.{Size, NotGranted, NotReady, TimedOut, Fatal, BadResponse}
@@ -25,7 +26,6 @@ use Rattle.crb_history.specs.Event.Event.{Read, Write, Claim, Sent, Exec, Finish
 use Rattle.crb_history.specs.Device.{phase_of, is_granted, is_cancel, number_of, buffer, executed, shows, Stage}
 use Rattle.crb_history.specs.Device.Stage.{Waiting, Claimed, HasSent, HasRun}
 use Rattle.crb_history.specs.Replies.{with_event, turn_at}
-use Rattle.vt_script.specs.Drive.{IsWellSized as IsWellSizedLine}
 use Rattle.vt_script.specs.declared.event.Event.TheVariants.{Work}
 use Rattle.crbsim.specs.Bus.{IsAfter, IsAtRest, Calls, Leads, after_turn}
 use Rattle.crbsim.specs.declared.session.Session.{Session}
@@ -261,7 +261,3 @@ module _ (b : Base) (p : History) (s : Session) (command : List ℕ) (sized_well
       not_bad n xs is least most ample (inl few) = omega arith
       not_bad n xs is least most ample (inr (inl many)) = omega arith
       not_bad n xs is least most ample (inr (inr many)) = omega arith
-
--- a line's well-sized command is one that the driver sends
-pub driver-sized : (command : List ℕ) → IsWellSizedLine command → IsWellSized command
-driver-sized command sized = record { fits = record { least = sized.least; most = sized.most }; named = sized.named }

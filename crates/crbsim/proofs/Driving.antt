@@ -15,7 +15,7 @@ use Rattle.tpm_core.specs.Answers.{Entry}
 use Rattle.tpm_frame.specs.Frames.{frame_length_of}
 use Rattle.crb_driver.specs.Bus.{Exchange, Relation, Reaches, reading, writing}
 use Rattle.crb_driver.specs.Accesses.{request_accesses, ready_accesses, send_accesses, start_accesses, byte_writes}
-use Rattle.crb_driver.specs.Sizes.{IsWellSized}
+use Rattle.tpm_frame.specs.Sizes.{IsWellSized}
 use Rattle.crb_history.specs.Base.{Base}
 use Rattle.crb_history.specs.Bytes.{bytes_at, command_in}
 use Rattle.crb_history.specs.Event.{History}

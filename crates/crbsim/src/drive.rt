@@ -1,7 +1,8 @@
 //! The command `drive`: a driver does the command of each line, and the response is written.
 ghost use Rattle.std.specs.Prelude.{◌≡◌, ◌≢◌, ◌≤◌, OnOk, OnErr, length, take};
 ghost use Rattle.vt_base.specs.Faults.{Rose};
-ghost use Rattle.vt_script.specs.Drive.{HasWellSized, IsWellSized};
+ghost use Rattle.tpm_frame.specs.Sizes.{IsWellSized};
+ghost use Rattle.vt_script.specs.Drive.{HasWellSized};
 ghost use Rattle.crb_history.specs.Base.{Base};
 ghost use Rattle.crb_history.specs.Event.{History};
 ghost use Rattle.crbsim.specs.Bus.{Calls, IsAtRest, Responds};

@@ -1,5 +1,5 @@
 //! What is written: gathered output, and the texts that end it.
-ghost use Rattle.std.specs.Prelude.{◌≡◌, ◌≢◌, ◌++◌, OnOk, OnErr};
+ghost use Rattle.std.specs.Prelude.{◌≡◌, ◌≢◌, ◌<◌, ◌++◌, OnOk, OnErr, length};
 ghost use Rattle.vt_base.specs.Faults.{HasCause, Rose};
 ghost use Rattle.vt_base.specs.Output.{AppendsFront};
 ghost use Rattle.crbsim.specs.Run.{Finishes, Spills, TellsBadLine};
@@ -25,9 +25,10 @@ pub fn finish<K: Sink>(sink: &mut K, waiting: &[u8], text: &[u8], status: Status
     status
 }
 
-/// Writes what waits, if it is much.
+/// Writes what waits, if it is much. So less than a chunk goes on waiting, however long the output gets.
 pub fn spill<K: Sink>(waiting: &mut Vec<u8>, sink: &mut K) -> Result<(), Failed>
     ensures ok { OnOk result (Spills (K.written sink.old) (K.written sink.new) waiting.old.items waiting.new.items) }
+    ensures small { OnOk result (length waiting.new.items < CHUNK) }
     ensures err { OnErr result (AppendsFront (K.written sink.old) (K.written sink.new) waiting.old.items) }
     ensures cause { HasCause (K.faults sink.old) (K.faults sink.new) result }
 {

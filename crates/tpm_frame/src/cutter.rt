@@ -4,7 +4,7 @@ ghost use Rattle.std.specs.Prelude.{◌≡◌, ◌≤◌, ◌++◌, length, [], 
 ghost use Rattle.std.specs.Bool.{OnTrue, OnFalse};
 ghost use Rattle.tpm_frame.specs.Frames.{frames, frame_length_of, frames_within, IsFrame, IsPart};
 
-use crate::{HEADER_SIZE, LARGEST_FRAME};
+use crate::{HEADER_SIZE, LARGEST_FRAME, SIZE_FIELD, u32_at};
 use std::alloc::{AllocError, Global};
 use std::marker::Model;
 use vt_base::{Grammar, Held, Missing, field_of};
@@ -17,7 +17,7 @@ pub fn frame_length(head: &[u8]) -> usize
     requires { 6 ≤ length head.now }
     ensures { result ≡ frame_length_of head.now }
 {
-    let size = u32::from_be_bytes([head[2], head[3], head[4], head[5]]) as usize;
+    let size = u32_at(head, SIZE_FIELD) as usize;
     size.clamp(HEADER_SIZE, LARGEST_FRAME)
 }
 

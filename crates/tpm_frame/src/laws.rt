@@ -1,16 +1,14 @@
 //! Laws of frames and of streams of them.
 
-ghost use Rattle.std.specs.Prelude.{◌≡◌, ◌≤◌, ◌++◌, ◌∷◌, [], List, ℕ, length};
-ghost use Rattle.std.specs.Int.{w32};
-ghost use Rattle.tpm_frame.specs.Frame.{number_at};
+ghost use Rattle.std.specs.Prelude.{◌≡◌, ◌++◌, ◌∷◌, [], List, ℕ};
 ghost use Rattle.tpm_frame.specs.Frames.{IsFrame, IsPart, AreCut};
+ghost use Rattle.tpm_frame.specs.Sizes.{IsWellSized};
 
 use vt_base::ends_are_told_apart;
 
 /// Bytes whose size field is their length are a frame, where a frame may have so many.
 pub fn sized_bytes_are_frames()
-    ensures { (bytes : List ℕ) → 10 ≤ length bytes → length bytes ≤ 3968
-        → number_at w32 2 bytes ≡ length bytes → IsFrame bytes }
+    ensures { (bytes : List ℕ) → IsWellSized bytes → IsFrame bytes }
 {}
 
 /// However a stream is cut into pieces, its frames are these and no others, up to a rest in which none is whole.

@@ -10,10 +10,12 @@ ghost use Rattle.vt_base.specs.Buffer.{followed_by_zeros};
 
 mod cutter;
 pub mod laws;
+mod sizes;
 #[cfg(test)]
 mod tests;
 
 pub use cutter::{Cutter, Took, frame_length};
+pub use sizes::{SIZE_FIELD, SIZE_FIELD_LENGTH, is_length, is_well_sized};
 use vt_base::{BUFFER_LENGTH, Buf};
 
 /// TPM_ST_NO_SESSIONS: the tag of a command or a response without authorisations.
@@ -118,7 +120,7 @@ pub fn parse(bytes: &[u8]) -> Result<Head, u32>
     if !is_tag(tag) {
         return Err(BAD_TAG);
     }
-    if u32_at(bytes, 2) as usize != bytes.len() {
+    if u32_at(bytes, SIZE_FIELD) as usize != bytes.len() {
         return Err(COMMAND_SIZE);
     }
     let code = u32_at(bytes, 6);

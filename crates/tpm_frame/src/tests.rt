@@ -103,6 +103,22 @@ fn cuts(rt: HostRuntime) -> Result<(), Fail> {
 }
 
 #[test]
+fn sizes(rt: HostRuntime) {
+    assert!(rt; !is_length(9));
+    assert!(rt; is_length(10));
+    assert!(rt; is_length(3968));
+    assert!(rt; !is_length(3969));
+    assert!(rt; is_well_sized(&START));
+    // The size field is a byte off, or the bytes are a byte off it.
+    assert!(rt; !is_well_sized(&[0x80, 1, 0, 0, 0, 11, 0, 0, 1, 0x44, 0, 0]));
+    assert!(rt; !is_well_sized(&[0x80, 1, 0, 0, 0, 13, 0, 0, 1, 0x44, 0, 0]));
+    assert!(rt; !is_well_sized(&START[..11]));
+    // Well named, but no length of a frame.
+    assert!(rt; !is_well_sized(&[0x80, 1, 0, 0, 0, 9, 0, 0, 1]));
+    assert!(rt; !is_well_sized(&[]));
+}
+
+#[test]
 fn laws_may_be_called() {
     laws::sized_bytes_are_frames();
     laws::streams_are_cut_once();

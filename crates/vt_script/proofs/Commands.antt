@@ -1,44 +1,36 @@
 -- Commands by their digits.
-use Rattle.std.proofs.Common.{◌≡◌, ℕ, ◌/◌, ◌≤◌, Bool, true, false, List, [], ◌∷◌, ◌++◌, length, refl, sym, ap, ◌∙◌, arith, cond, Some, None, Result, Ok, Err}
+use Rattle.std.proofs.Common.{◌≡◌, ℕ, ◌/◌, Bool, true, false, List, [], ◌∷◌, ◌++◌, length, refl, sym, ap, ◌∙◌, arith, cond, Some, None, Result, Ok, Err}
 use Rattle.std.specs.Prelude.{◌==◌, ◌↔◌}
 use Rattle.std.specs.List.{AllPass}
 use Rattle.std.specs.Str.{bytes_eq}
 use Rattle.std.proofs.lemmas.List.Splits.{join_with_byte-slice_split, slice_split_none}
 use Rattle.std.proofs.lemmas.Slice.Eq.{bytes_eq-Decides}
-use lib.Chars.{codes}
 use Rattle.std.proofs.lemmas.Bool.Decides.{nat_tests}
+use lib.Chars.{codes}
 use Rattle.hex.specs.Hex.{decode_of, encode_lower, is_hex_digit, IsBytes}
 use Rattle.hex.specs.declared.error.FromHexError.{FromHexError}
 use Rattle.hex.proofs.HexLemmas.{decode_of-ok, decode_of-encode_lower}
 use Rattle.vt_script.specs.declared.drive.DriveLine.TheVariants.{Cmd}
 use Rattle.vt_script.specs.Script.{parts_of}
-use Rattle.vt_script.specs.Drive.{IsWellSized, is_well_sized, sized_command, command_of, drive_of_words, drive_of, SpellsCommand}
-
-well_sized : (bytes : List ℕ) → is_well_sized bytes ≡ true → IsWellSized bytes
-well_sized bytes h = record {
-  least = grind (arith, nat_tests, h);
-  most = grind (arith, nat_tests, h);
-  named = grind (arith, nat_tests, h);
-}
+use Rattle.tpm_frame.specs.Sizes.{IsLength, IsWellSized, is_well_sized}
+use Rattle.tpm_frame.proofs.WellSized.{well_sized, test_of}
+use Rattle.vt_script.specs.Drive.{sized_command, command_of, drive_of_words, drive_of, SpellsCommand}
 
 -- too few digits for the header of a command, or more than the buffer has room for
-pub sized_command-None : (digits : List ℕ) → ((10 ≤ length digits / 2) × (length digits / 2 ≤ 3968) → ⊥) → sized_command (decode_of digits) ≡ None
+pub sized_command-None : (digits : List ℕ) → (IsLength (length digits / 2) → ⊥) → sized_command (decode_of digits) ≡ None
 sized_command-None digits outside = go (decode_of digits) refl
   where
     go : (decoded : Result (List ℕ) FromHexError) → decode_of digits ≡ decoded → sized_command decoded ≡ None
     go (Ok bytes) is =
         let twice = (decode_of-ok digits bytes is).2 in
         let half : length digits / 2 ≡ length bytes = omega arith in
-        let not_sized : is_well_sized bytes ≡ true → ⊥ = λ t. let sized = well_sized bytes t in outside (rw half sized.least, rw half sized.most) in
+        let not_sized : is_well_sized bytes ≡ true → ⊥ = λ t. let sized = well_sized bytes t in outside (rw half sized.fits) in
         tested (is_well_sized bytes) not_sized
       where
         tested : (test : Bool) → (test ≡ true → ⊥) → cond test (Some (Cmd bytes)) None ≡ None
         tested true never = absurd (never refl)
         tested false never = refl
     go (Err fault) is = refl
-
-test_of : (bytes : List ℕ) → IsWellSized bytes → is_well_sized bytes ≡ true
-test_of bytes h = grind (arith, nat_tests, h.least, h.most, h.named)
 
 -- what was decoded, where it is a command
 sized_command-Some : (decoded : Result (List ℕ) FromHexError) (bytes : List ℕ) → sized_command decoded ≡ Some (Cmd bytes) → (decoded ≡ Ok bytes) × IsWellSized bytes

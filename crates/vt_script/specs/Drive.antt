@@ -1,31 +1,15 @@
 -- The lines that send commands to a TPM, and the text of a response (own).
-use Rattle.std.specs.Prelude.{ℕ, ◌≡◌, ◌≤◌, ◌&&◌, ◌==◌, nat_le, if◌then◌else◌, Bool, List, [], ◌∷◌, ◌++◌, length, take, drop, Option, Some, None, Result, Ok, Err}
-use Rattle.std.specs.Int.{w32, from_be_bytes}
+use Rattle.std.specs.Prelude.{ℕ, ◌≡◌, if◌then◌else◌, List, [], ◌∷◌, ◌++◌, Option, Some, None, Result, Ok, Err}
 use Rattle.std.specs.Str.{bytes_eq}
 use lib.Chars.{codes}
 use Rattle.hex.specs.Hex.{decode_of, encode_lower}
 use Rattle.hex.specs.declared.error.FromHexError.{FromHexError}
-use Rattle.vt_base.specs.declared.buf.TheConstants.{BUFFER_LENGTH}
+use Rattle.tpm_frame.specs.Sizes.{IsWellSized, is_well_sized}
 use Rattle.vt_script.specs.declared.parts.TheConstants.{SPACE}
-use Rattle.vt_script.specs.declared.drive.TheConstants.{HEADER_LENGTH}
 use Rattle.vt_script.specs.declared.drive.DriveLine.{DriveLine}
 use Rattle.vt_script.specs.declared.drive.DriveLine.TheVariants.{Cmd}
 use Rattle.vt_script.specs.Script.{parts_of}
 use Rattle.vt_script.specs.Replies.{ended}
-
--- the number in the size field of a command: bytes 2 to 5, the highest first
-abbrev pub size_field : List ℕ → ℕ
-size_field bytes = from_be_bytes w32 (take 4 (drop 2 bytes))
-
--- the bytes have the length of a command, and their size field names it
-pub record IsWellSized (bytes : List ℕ) : Type 0 where
-  pub least : HEADER_LENGTH ≤ length bytes
-  pub most : length bytes ≤ BUFFER_LENGTH
-  pub named : from_be_bytes w32 (take 4 (drop 2 bytes)) ≡ length bytes
-
--- whether bytes are well sized
-abbrev pub is_well_sized : List ℕ → Bool
-is_well_sized bytes = nat_le HEADER_LENGTH (length bytes) && nat_le (length bytes) BUFFER_LENGTH && size_field bytes == length bytes
 
 -- the line of a command that was decoded, where it is well sized
 abbrev pub sized_command : Result (List ℕ) FromHexError → Option DriveLine

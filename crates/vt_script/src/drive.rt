@@ -1,16 +1,15 @@
 //! The lines that send commands to a TPM, and the text of a response.
-ghost use Rattle.std.specs.Prelude.{◌≡◌, ◌↔◌, ◌++◌, ◌≤◌, ℕ, List, Some, IsTrue, IfOk, IfSome, OnOk, OnErr, codes, length};
+ghost use Rattle.std.specs.Prelude.{◌≡◌, ◌↔◌, ◌++◌, ℕ, List, Some, IfOk, IfSome, OnOk, OnErr, codes};
 ghost use Rattle.hex.specs.Hex.{decode_of, encode_lower, IsBytes};
 ghost use Rattle.vt_script.specs.Script.{parts_of};
-ghost use Rattle.vt_script.specs.Drive.{size_field, sized_command, command_of, drive_of};
-ghost use Rattle.vt_script.specs.Drive.{IsWellSized, HasWellSized, SpellsCommand, hex_line};
+ghost use Rattle.tpm_frame.specs.Sizes.{IsWellSized};
+ghost use Rattle.vt_script.specs.Drive.{sized_command, command_of, drive_of};
+ghost use Rattle.vt_script.specs.Drive.{HasWellSized, SpellsCommand, hex_line};
 
 use crate::parts::{LINE_FEED, SPACE, first_part};
 use std::alloc::{AllocError, Global};
-use vt_base::{BUFFER_LENGTH, Bytes};
-
-/// How many bytes the header of a command has: no command is shorter.
-const HEADER_LENGTH: usize = 10;
+use tpm_frame::{LARGEST_FRAME, is_length, is_well_sized};
+use vt_base::Bytes;
 
 /// What one drive line asks for.
 #[derive(Debug, Drop)]
@@ -19,33 +18,18 @@ pub enum DriveLine {
     Cmd(Bytes),
 }
 
-// Whether a command may have so many bytes.
-fn is_command_length(count: usize) -> bool
-    ensures { IsTrue result ↔ ((HEADER_LENGTH ≤ count) × (count ≤ BUFFER_LENGTH)) }
-{
-    (HEADER_LENGTH..=BUFFER_LENGTH).contains(&count)
-}
-
-// The number in bytes 2 to 5.
-fn named_size(command: &[u8]) -> u32
-    requires { HEADER_LENGTH ≤ length command.now }
-    ensures { result ≡ size_field command.now }
-{
-    u32::from_be_bytes([command[2], command[3], command[4], command[5]])
-}
-
 // The command that hexadecimal digits spell. It is decoded on the stack, so that only a good one takes memory.
 fn command(alloc: Global, digits: &[u8]) -> Result<Option<DriveLine>, AllocError>
     ensures line { IfOk result (λ found. found ≡ sized_command (decode_of digits.now)) }
     ensures sized { IfOk result (λ found. IfSome found HasWellSized) }
 {
     let count = digits.len() / 2;
-    if !is_command_length(count) {
+    if !is_length(count) {
         return Ok(None);
     }
-    let mut room = [0; BUFFER_LENGTH];
+    let mut room = [0; LARGEST_FRAME];
     let bytes = &mut room[..count];
-    if hex::decode_to_slice(digits, bytes).is_err() || named_size(bytes) as usize != count {
+    if hex::decode_to_slice(digits, bytes).is_err() || !is_well_sized(bytes) {
         return Ok(None);
     }
     Ok(Some(DriveLine::Cmd(Bytes::from_slice(alloc, bytes)?)))

@@ -8,7 +8,7 @@ returns-clause-response c = answer_is_response
 pub returns-clause-frame : goal.returns-clause-frame
 returns-clause-frame c = λ b past command fit.
     let is = answer_is_response b past command fit in
-    c.sized_bytes_are_frames.ensures (answer b past command) is.head is.room is.size
+    c.sized_bytes_are_frames.ensures (answer b past command) (record { fits = record { least = is.head; most = is.room }; named = is.size })
 
 pub returns-clause-not_cancelled : goal.returns-clause-not_cancelled
 unfolding answer
