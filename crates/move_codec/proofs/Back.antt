@@ -1,11 +1,11 @@
 -- What the rows say is what the layout of messages tells.
-use Rattle.std.proofs.Common.{◌≡◌, ◌≢◌, ℕ, suc, ◌+◌, ◌*◌, ◌^◌, ◌<◌, ◌≤◌, Bool, true, false, cond, eqb, List, [], ◌∷◌, ◌++◌, length, take, drop, Some, None, Ok, Err, refl, sym, ap, subst, ◌∙◌, arith, inl, inr, ◌⊎◌, eq-eqb}
+use Rattle.std.proofs.Common.{◌≡◌, ◌≢◌, ℕ, suc, ◌+◌, ◌^◌, ◌<◌, ◌≤◌, Bool, true, false, cond, eqb, List, [], ◌∷◌, ◌++◌, length, take, Ok, Err, refl, sym, subst, arith, inl, inr, ◌⊎◌, eq-eqb}
 use Rattle.std.specs.Prelude.{◌||◌, nat_lt, slice_index}
 use Rattle.std.specs.List.{AllByRecursion}
 use Rattle.std.proofs.lemmas.Bool.{le-ltb, lt-ltb}
 use Rattle.std.proofs.lemmas.List.{drop_all}
 use Rattle.vt_base.specs.Numbers.{short, number, long}
-use Rattle.vt_base.specs.Layout.{Layout, Field, Spells, number_then, short_then, long_then}
+use Rattle.vt_base.specs.Layout.{Field, Spells, number_then, short_then, long_then}
 use Rattle.vt_base.specs.declared.words.Why.TheVariants.{Magic, Version, Length, Value}
 use Rattle.vt_base.specs.declared.words.Malformed.{Malformed}
 use Rattle.vt_base.specs.Refusing.{malformed, refuse}
@@ -18,13 +18,12 @@ use Rattle.move_codec.specs.declared.names.Part.{Part}
 use Rattle.move_codec.specs.declared.names.Reason.{Reason}
 use Rattle.move_codec.specs.declared.names.Kind.{Kind}
 use Rattle.move_codec.specs.declared.names.Kind.TheVariants as kind
-use Rattle.move_codec.specs.declared.outline.Outline.{Outline}
 use Rattle.move_codec.specs.declared.outline.Shape.{Shape}
 use Rattle.move_codec.specs.declared.outline.Shape.TheVariants as shape
-use Rattle.move_codec.specs.Names.{named, host_byte, hosts, part_byte, parts, reason_byte, reasons, kind_byte, kinds, fits}
+use Rattle.move_codec.specs.Names.{host_byte, hosts, part_byte, parts, reason_byte, reasons, kind_byte, kinds, fits}
 use Rattle.move_codec.specs.Messages.{Ending, outline, whole, name_then, offer, need, piece, bytes_of, refusal, body_of, receiver, after_kind, after_length, after_magic, messages}
-use Rattle.move_codec.specs.Spelling.{Moves, HasPiece, IsInRange, magic, before_length, before_kind, before_receiver, before_body, kind_of, fields_of, numbers}
-use Rattle.move_codec.specs.Refusals.{Refuses, IsOutside, IsLength, Fits, BeginsWithPart, before_bytes, wrong_magic, wrong_version, no_length, no_kind, unfit_length, no_receiver, no_part, no_reason, no_count, unfit_count}
+use Rattle.move_codec.specs.Spelling.{Moves, HasPiece, IsInRange, magic, before_kind, before_receiver, before_body, kind_of, fields_of, numbers}
+use Rattle.move_codec.specs.Refusals.{Refuses, IsOutside, IsLength, Fits, BeginsWithPart, wrong_magic, wrong_version, no_length, no_kind, unfit_length, no_receiver, no_part, no_reason, no_count, unfit_count}
 use Rattle.move_codec.proofs.Named.{differs, nameless, host_back, part_back, reason_back, kind_back, hosts_row, parts_row, reasons_row, kinds_row}
 use Rattle.move_codec.proofs.Steps.{spells_short, spells_long, spells_mark, spells_magic, spells_other, spells_other_magic, spells_name, spells_nameless}
 use Rattle.move_codec.proofs.Writes.{length-numbers, fields_room}

@@ -1,10 +1,10 @@
 -- What the layout of messages tells is what the rows say: a message by its spelling, or a refusal.
-use Rattle.std.proofs.Common.{◌≡◌, ◌≢◌, ℕ, suc, ◌+◌, ◌^◌, ◌<◌, ◌≤◌, Bool, true, false, cond, eqb, List, [], ◌∷◌, ◌++◌, length, take, drop, Option, None, Ok, Err, refl, sym, ap, subst, ◌∙◌, arith, inl, inr, ◌⊎◌}
+use Rattle.std.proofs.Common.{◌≡◌, ◌≢◌, ℕ, ◌+◌, ◌^◌, ◌<◌, ◌≤◌, Bool, true, false, cond, eqb, List, [], ◌∷◌, ◌++◌, length, take, drop, None, Ok, Err, refl, sym, ap, subst, arith, inl, inr, ◌⊎◌}
 use Rattle.std.specs.Prelude.{◌||◌, nat_lt}
 use Rattle.std.proofs.lemmas.Bool.{eqb-true, eqb-false, ltb-true, ltb-false}
 use Rattle.std.proofs.lemmas.List.{length-drop}
 use Rattle.vt_base.specs.Numbers.{IsBytes, short, number, long}
-use Rattle.vt_base.specs.Layout.{Layout, Field, Spells, number_then, short_then, long_then}
+use Rattle.vt_base.specs.Layout.{Field, Spells, number_then, short_then, long_then}
 use Rattle.vt_base.specs.declared.words.Why.TheVariants.{Magic, Version, Length, Value}
 use Rattle.vt_base.specs.declared.words.Malformed.{Malformed}
 use Rattle.vt_base.specs.Refusing.{malformed, refuse}
@@ -14,11 +14,9 @@ use Rattle.move_codec.specs.declared.message.Body.{Body}
 use Rattle.move_codec.specs.declared.message.Body.TheVariants as body
 use Rattle.move_codec.specs.declared.names.HostName.{HostName}
 use Rattle.move_codec.specs.declared.names.Part.{Part}
-use Rattle.move_codec.specs.declared.names.Reason.{Reason}
 use Rattle.move_codec.specs.declared.names.Kind.{Kind}
 use Rattle.move_codec.specs.declared.names.Kind.TheVariants as kind
 use Rattle.move_codec.specs.declared.outline.Outline.{Outline}
-use Rattle.move_codec.specs.declared.outline.Shape.{Shape}
 use Rattle.move_codec.specs.declared.outline.Shape.TheVariants as shape
 use Rattle.move_codec.specs.Names.{named, host_byte, hosts, part_byte, parts, reason_byte, reasons, kind_byte, kinds, fits}
 use Rattle.move_codec.specs.Messages.{Ending, outline, whole, name_then, offer, need, piece, bytes_of, refusal, body_of, receiver, after_kind, after_length, after_magic, messages}

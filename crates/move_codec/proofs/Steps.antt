@@ -1,11 +1,11 @@
 -- Steps through the fields of a format whose bytes may be refused: what one field leaves to be shown, and back.
-use Rattle.std.proofs.Common.{◌≡◌, ◌≢◌, ℕ, zero, suc, ◌+◌, ◌^◌, ◌<◌, cond, eqb, List, [], ◌∷◌, ◌++◌, length, take, Option, Some, None, Result, Ok, Err, refl, sym, ap, subst, arith, inl, inr, ◌⊎◌, eq-eqb}
+use Rattle.std.proofs.Common.{◌≡◌, ◌≢◌, ℕ, zero, suc, ◌+◌, ◌^◌, ◌<◌, cond, eqb, List, [], ◌∷◌, ◌++◌, length, take, Option, Some, None, Result, Err, refl, sym, subst, arith, inl, inr, eq-eqb}
 use Rattle.std.specs.Prelude.{slice_index}
 use Rattle.std.specs.Int.{w16, w64, from_be_bytes}
 use Rattle.std.proofs.lemmas.Bool.{eqb-true, eqb-false}
 use Rattle.std.proofs.lemmas.Nat.{from_be_bytes-to_be_bytes_2, from_be_bytes-to_be_bytes_8}
 use Rattle.vt_base.specs.Numbers.{IsBytes, short, long}
-use Rattle.vt_base.specs.Layout.{Layout, Field, Spells, byte_then, short_then, long_then}
+use Rattle.vt_base.specs.Layout.{Layout, Spells, byte_then, short_then, long_then}
 use Rattle.vt_base.specs.declared.words.Why.{Why}
 use Rattle.vt_base.specs.declared.words.Why.TheVariants.{Magic, Value}
 use Rattle.vt_base.specs.declared.words.Malformed.{Malformed}

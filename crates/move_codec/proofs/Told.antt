@@ -10,7 +10,7 @@ use Rattle.move_codec.specs.declared.message.Body.TheVariants.{Offer, Need, Piec
 use Rattle.move_codec.specs.declared.outline.Outline.{Outline}
 use Rattle.move_codec.specs.declared.reader.FedMessage.{FedMessage}
 use Rattle.move_codec.specs.declared.reader.FedMessage.TheVariants.{More, Whole, Bad, Failed}
-use Rattle.move_codec.specs.Spelling.{Moves, fields_of, spelling}
+use Rattle.move_codec.specs.Spelling.{Moves, fields_of}
 use Rattle.move_codec.specs.Refusals.{Refuses, IsUndecided}
 use Rattle.move_codec.specs.Messages.{Ending, outline, messages}
 use Rattle.move_codec.specs.Outlines.{body_of, message_of}

@@ -1,12 +1,11 @@
 -- Migration messages, told from the left: the layout of the rows of Spelling and Refusals. (Own format.)
-use Rattle.std.specs.Prelude.{ℕ, ◌+◌, ◌==◌, ◌||◌, List, [], ◌∷◌, nat_lt, if◌then◌else◌, Option, Some, None, Result, Ok, Err}
+use Rattle.std.specs.Prelude.{ℕ, ◌+◌, ◌==◌, ◌||◌, List, [], ◌∷◌, nat_lt, if◌then◌else◌, Option, Some, None, Result, Ok}
 use Rattle.vt_base.specs.declared.words.Why.TheVariants.{Magic, Version, Length, Value}
 use Rattle.vt_base.specs.declared.words.Malformed.{Malformed}
 use Rattle.vt_base.specs.Layout.{Layout, Ends, Field, byte_then, short_then, number_then, long_then}
 use Rattle.vt_base.specs.Refusing.{refuse, mark_then}
 use Rattle.move_codec.specs.declared.names.HostName.{HostName}
 use Rattle.move_codec.specs.declared.names.Part.{Part}
-use Rattle.move_codec.specs.declared.names.Reason.{Reason}
 use Rattle.move_codec.specs.declared.names.Kind.{Kind}
 use Rattle.move_codec.specs.declared.names.Kind.TheVariants as kind
 use Rattle.move_codec.specs.declared.outline.Shape.{Shape}

@@ -3,10 +3,10 @@ use Rattle.std.specs.Prelude.{ℕ, ◌≡◌, ◌≤◌, ◌-◌, ◌+◌, ◌||
 use Rattle.std.specs.Int.{w16, w32, w64, from_be_bytes}
 use Rattle.std.proofs.Common.{lit≤}
 use Rattle.std.proofs.lemmas.Bool.{ltb-false}
-use Rattle.vt_base.specs.declared.words.Why.TheVariants.{Magic, Version, Length, Value}
+use Rattle.vt_base.specs.declared.words.Why.TheVariants.{Length, Value}
 use Rattle.vt_base.specs.declared.words.Malformed.{Malformed}
-use Rattle.vt_base.specs.Layout.{Layout, Field, IsWithin, number_then}
-use Rattle.vt_base.specs.Refusing.{refuse, mark_then}
+use Rattle.vt_base.specs.Layout.{Layout, Field, IsWithin}
+use Rattle.vt_base.specs.Refusing.{refuse}
 use Rattle.vt_base.specs.Within.{either_within, mark_within}
 use Rattle.move_codec.specs.declared.names.HostName.{HostName}
 use Rattle.move_codec.specs.declared.names.Part.{Part}
@@ -14,7 +14,7 @@ use Rattle.move_codec.specs.declared.names.Kind.{Kind}
 use Rattle.move_codec.specs.declared.names.Kind.TheVariants.{Offer, Need, Piece, Prepared, Commit, Abort, Refuse}
 use Rattle.move_codec.specs.declared.outline.Shape.TheVariants as shape
 use Rattle.move_codec.specs.Names.{named, host_byte, hosts, part_byte, parts, reason_byte, reasons, kind_byte, kinds, fits}
-use Rattle.move_codec.specs.Messages.{Ending, whole, name_next, name_then, bytes_of, body_of, receiver, after_kind, after_length, messages}
+use Rattle.move_codec.specs.Messages.{whole, name_next, name_then, bytes_of, body_of, receiver, after_kind, after_length, messages}
 
 next_within : {X V : Type 0} (place : ℕ) (next : X → Layout (Result V Malformed)) (name : Option X) (room : ℕ) → ((x : X) → IsWithin (next x) room) → IsWithin (name_next place next name) room
 next_within place next None room h = tt

@@ -1,5 +1,5 @@
 // Names that stand in a message as one byte. The number of each is written at its name.
-ghost use Rattle.std.specs.Prelude.{◌≡◌, ℕ, List};
+ghost use Rattle.std.specs.Prelude.{◌≡◌, ℕ};
 ghost use Rattle.move_codec.specs.Names.{named, host_byte, hosts, part_byte, parts, reason_byte, reasons, kind_byte, kinds, fits};
 
 use crate::format::{BARE_LENGTH, OFFER_LENGTH, PIECE_LENGTH, SHORT_LENGTH};
@@ -77,7 +77,7 @@ impl Part {
 /// Why a host refuses an offer or a piece.
 #[derive(Clone, Copy, Debug, PartialEq, Eq)]
 pub enum Reason {
-    /// It runs, or has an offer of its own.
+    /// It runs, or has an offer of its own open.
     Busy = 1,
     /// A part is empty or too long.
     Totals = 2,
@@ -87,7 +87,7 @@ pub enum Reason {
     Blob = 4,
     /// The link to the emulator failed.
     Link = 5,
-    /// The emulator's reply can't be what it stands for.
+    /// The emulator's reply has a byte that can't stand there.
     Reply = 6,
 }
 

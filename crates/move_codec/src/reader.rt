@@ -59,16 +59,19 @@ impl Reader {
         })
     }
 
-    /// Takes bytes up to the end of one message, or of a field that is refused; gives how many it took. Only a piece's
-    /// own bytes need memory.
+    /// Takes bytes up to the end of one message, or of a field that is refused, and gives how many it took. Memory is
+    /// taken for the bytes of a [`Body::Piece`](crate::Body::Piece) alone.
     pub fn feed(&mut self, alloc: Global, piece: &[u8]) -> Result<(usize, FedMessage), AllocError>
         ensures within { IfOk result (λ fed. fed.0 ≤ length piece.now) }
         // The bytes so far, up to the last one taken, are this message.
-        ensures whole { IfOk result (λ fed. IfWhole fed.1 (λ m. Moves m (self.old.begun ++ take fed.0 piece.now))) }
+        ensures whole { IfOk result (λ fed.
+            IfWhole fed.1 (λ m. Moves m (self.old.begun ++ take fed.0 piece.now))) }
         // They end with the field that is refused.
-        ensures bad { IfOk result (λ fed. IfBad fed.1 (λ fault. Refuses fault (self.old.begun ++ take fed.0 piece.now))) }
+        ensures bad { IfOk result (λ fed.
+            IfBad fed.1 (λ fault. Refuses fault (self.old.begun ++ take fed.0 piece.now))) }
         // All bytes are taken, and in them no message is whole and no field is refused.
-        ensures more { IfOk result (λ fed. OnMore fed.1 ((fed.0 ≡ length piece.now) × IsUndecided (self.old.begun ++ piece.now))) }
+        ensures more { IfOk result (λ fed.
+            OnMore fed.1 ((fed.0 ≡ length piece.now) × IsUndecided (self.old.begun ++ piece.now))) }
         // Exactly after a refusal.
         ensures failed { IfOk result (λ fed. is_failed fed.1 ≡ self.old.failed) }
         ensures failed_takes { IfOk result (λ fed. OnFailed fed.1 (fed.0 ≡ 0)) }
@@ -81,9 +84,12 @@ impl Reader {
     #[tactic(auto, using(crate::proofs::Begins::open_nil))]
     fn advance(&mut self, alloc: Global, piece: &[u8]) -> Result<(usize, FedMessage), AllocError>
         ensures within { IfOk result (λ fed. fed.0 ≤ length piece.now) }
-        ensures whole { IfOk result (λ fed. IfWhole fed.1 (λ m. Fills m (self.old.begun ++ take fed.0 piece.now))) }
-        ensures bad { IfOk result (λ fed. IfBad fed.1 (λ fault. Told (Err fault) (self.old.begun ++ take fed.0 piece.now))) }
-        ensures more { IfOk result (λ fed. OnMore fed.1 ((fed.0 ≡ length piece.now) × IsOpen messages (self.old.begun ++ piece.now))) }
+        ensures whole { IfOk result (λ fed.
+            IfWhole fed.1 (λ m. Fills m (self.old.begun ++ take fed.0 piece.now))) }
+        ensures bad { IfOk result (λ fed.
+            IfBad fed.1 (λ fault. Told (Err fault) (self.old.begun ++ take fed.0 piece.now))) }
+        ensures more { IfOk result (λ fed.
+            OnMore fed.1 ((fed.0 ≡ length piece.now) × IsOpen messages (self.old.begun ++ piece.now))) }
         ensures failed { IfOk result (λ fed. is_failed fed.1 ≡ self.old.failed) }
         ensures failed_takes { IfOk result (λ fed. OnFailed fed.1 (fed.0 ≡ 0)) }
         ensures after { IfOk result (λ fed. self.new ≡ after self.old piece.now fed.1) }
