@@ -1,0 +1,10 @@
+pub mod Answers
+pub mod Messages
+pub mod Names
+pub mod Outlines
+pub mod Reading
+pub mod Refusals
+pub mod Room
+pub mod Spelling
+pub mod Streams
+pub mod Told

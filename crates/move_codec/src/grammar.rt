@@ -1,0 +1,154 @@
+// How migration messages are told from the left.
+ghost use Rattle.std.specs.Prelude.{◌≡◌};
+ghost use Rattle.vt_base.specs.Verdict.{judged};
+ghost use Rattle.move_codec.specs.Messages.{offer, need, piece, refusal, body_of, receiver, after_length, messages};
+ghost use Rattle.move_codec.specs.Room.{messages_within};
+
+use crate::format::{
+    BARE_LENGTH, BODY_PLACE, COUNT_PLACE, KIND_PLACE, LARGEST_LENGTH, LARGEST_PIECE, LENGTH_PLACE,
+    MAGIC, PIECE_LENGTH, RECEIVER_PLACE, VERSION, VERSION_PLACE,
+};
+use crate::names::{HostName, Kind, Part, Reason};
+use crate::outline::{Outline, Shape};
+use vt_base::{
+    Grammar, Judged, Malformed, Missing, Why, byte_of, field_of, long_of, number_of, refused,
+    short_of,
+};
+
+/// The grammar of migration messages.
+pub(crate) struct Messages;
+
+fn offer_of(to: HostName, epoch: u64, rest: &[u8]) -> Judged<Outline>
+    ensures { result ≡ judged (offer to epoch) rest.now }
+{
+    let (record, rest) = number_of(rest)?;
+    let (permanent, rest) = number_of(rest)?;
+    let (volatile, rest) = number_of(rest)?;
+    let (saved, _) = number_of(rest)?;
+    let totals = [record, permanent, volatile, saved];
+    let shape = Shape::Offer { totals };
+    Ok(Ok(Outline { to, epoch, shape }))
+}
+
+fn need_of(to: HostName, epoch: u64, rest: &[u8]) -> Judged<Outline>
+    ensures { result ≡ judged (need to epoch) rest.now }
+{
+    let (part, rest) = byte_of(rest)?;
+    let Some(part) = Part::from_byte(part) else {
+        return refused(Why::Value, BODY_PLACE);
+    };
+    let (offset, _) = number_of(rest)?;
+    let shape = Shape::Need { part, offset };
+    Ok(Ok(Outline { to, epoch, shape }))
+}
+
+fn piece_of(length: u32, to: HostName, epoch: u64, rest: &[u8]) -> Judged<Outline>
+    ensures { result ≡ judged (piece length to epoch) rest.now }
+{
+    let (part, rest) = byte_of(rest)?;
+    let Some(part) = Part::from_byte(part) else {
+        return refused(Why::Value, BODY_PLACE);
+    };
+    let (offset, rest) = number_of(rest)?;
+    let (count, rest) = short_of(rest)?;
+    if count == 0 || count > LARGEST_PIECE {
+        return refused(Why::Value, COUNT_PLACE);
+    }
+    if PIECE_LENGTH + u32::from(count) != length {
+        return refused(Why::Length, COUNT_PLACE);
+    }
+    let _bytes = field_of(rest, usize::from(count))?;
+    let shape = Shape::Piece { part, offset };
+    Ok(Ok(Outline { to, epoch, shape }))
+}
+
+fn refusal_of(to: HostName, epoch: u64, rest: &[u8]) -> Judged<Outline>
+    ensures { result ≡ judged (refusal to epoch) rest.now }
+{
+    let (reason, rest) = byte_of(rest)?;
+    let Some(reason) = Reason::from_byte(reason) else {
+        return refused(Why::Value, BODY_PLACE);
+    };
+    let (value, _) = number_of(rest)?;
+    let shape = Shape::Refuse { reason, value };
+    Ok(Ok(Outline { to, epoch, shape }))
+}
+
+fn body_of(kind: Kind, length: u32, to: HostName, epoch: u64, rest: &[u8]) -> Judged<Outline>
+    ensures { result ≡ judged (body_of kind length to epoch) rest.now }
+{
+    let shape = match kind {
+        Kind::Offer => return offer_of(to, epoch, rest),
+        Kind::Need => return need_of(to, epoch, rest),
+        Kind::Piece => return piece_of(length, to, epoch, rest),
+        Kind::Refuse => return refusal_of(to, epoch, rest),
+        Kind::Prepared => Shape::Prepared,
+        Kind::Commit => Shape::Commit,
+        Kind::Abort => Shape::Abort,
+    };
+    Ok(Ok(Outline { to, epoch, shape }))
+}
+
+fn receiver_of(kind: Kind, length: u32, rest: &[u8]) -> Judged<Outline>
+    ensures { result ≡ judged (receiver kind length) rest.now }
+{
+    let (to, rest) = byte_of(rest)?;
+    let Some(to) = HostName::from_byte(to) else {
+        return refused(Why::Value, RECEIVER_PLACE);
+    };
+    let (epoch, rest) = long_of(rest)?;
+    body_of(kind, length, to, epoch, rest)
+}
+
+fn kind_of(length: u32, rest: &[u8]) -> Judged<Outline>
+    ensures { result ≡ judged (after_length length) rest.now }
+{
+    if length < BARE_LENGTH || length > LARGEST_LENGTH {
+        return refused(Why::Length, LENGTH_PLACE);
+    }
+    let (kind, rest) = byte_of(rest)?;
+    let Some(kind) = Kind::from_byte(kind) else {
+        return refused(Why::Value, KIND_PLACE);
+    };
+    if !kind.fits(length) {
+        return refused(Why::Length, LENGTH_PLACE);
+    }
+    receiver_of(kind, length, rest)
+}
+
+impl Grammar for Messages {
+    type End = Result<Outline, Malformed>;
+
+    ghost layout = { λ _. messages };
+
+    ghost room = { λ _. 4122 };
+
+    ghost within = { λ _. messages_within };
+
+    #[tactic(auto, unfolding(crate::specs::Messages::messages))]
+    fn judge(&self, bytes: &[u8]) -> Result<Result<Outline, Malformed>, Missing> {
+        let [first, second, third, fourth] = MAGIC;
+        let (byte, rest) = byte_of(bytes)?;
+        if byte != first {
+            return refused(Why::Magic, 0);
+        }
+        let (byte, rest) = byte_of(rest)?;
+        if byte != second {
+            return refused(Why::Magic, 1);
+        }
+        let (byte, rest) = byte_of(rest)?;
+        if byte != third {
+            return refused(Why::Magic, 2);
+        }
+        let (byte, rest) = byte_of(rest)?;
+        if byte != fourth {
+            return refused(Why::Magic, 3);
+        }
+        let (version, rest) = byte_of(rest)?;
+        if version != VERSION {
+            return refused(Why::Version, VERSION_PLACE);
+        }
+        let (length, rest) = number_of(rest)?;
+        kind_of(length, rest)
+    }
+}

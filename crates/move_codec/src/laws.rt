@@ -1,0 +1,28 @@
+// Laws of migration messages and of streams of them. Their calls do nothing.
+ghost use Rattle.std.specs.Prelude.{◌≡◌, ◌++◌, ◌∷◌, [], List, ℕ, Option};
+ghost use Rattle.vt_base.specs.declared.words.Malformed.{Malformed};
+ghost use Rattle.move_codec.specs.declared.message.Message.{Message};
+ghost use Rattle.move_codec.specs.Spelling.{Moves};
+ghost use Rattle.move_codec.specs.Refusals.{Refuses};
+ghost use Rattle.move_codec.specs.Streams.{Carries, Stops};
+
+/// Bytes begin with one message, or with one refusal, whatever follows. So what was written is read again.
+pub fn messages_are_told_apart()
+    ensures messages { (m n : Message) (a b x y : List ℕ) → Moves m a → Moves n b
+        → a ++ x ≡ b ++ y → (m ≡ n) × (a ≡ b) }
+    ensures refusals { (f g : Malformed) (a b x y : List ℕ) → Refuses f a → Refuses g b
+        → a ++ x ≡ b ++ y → (f ≡ g) × (a ≡ b) }
+    ensures apart { (m : Message) (f : Malformed) (a b x y : List ℕ) → Moves m a → Refuses f b
+        → a ++ x ≡ b ++ y → ⊥ }
+{}
+
+/// However a stream is cut into pieces, it is these messages and no others, up to a rest that is refused for the same
+/// cause, or in which nothing is decided.
+pub fn streams_are_read_once()
+    // What was read so far grows by each message that becomes whole.
+    ensures grows { (sent : List Message) (stream rest piece front back : List ℕ) (m : Message) → Carries sent stream rest
+        → rest ++ piece ≡ front ++ back → Moves m front → Carries (sent ++ m ∷ []) (stream ++ piece) back }
+    ensures once { (sent others : List Message) (stream rest left : List ℕ) (stop end : Option Malformed)
+        → Carries sent stream rest → Stops stop rest → Carries others stream left → Stops end left
+        → (sent ≡ others) × (rest ≡ left) × (stop ≡ end) }
+{}
