@@ -1,0 +1,88 @@
+// Judges control requests field by field.
+ghost use Rattle.std.specs.Prelude.{◌≡◌};
+ghost use Rattle.vt_base.specs.Verdict.{judged};
+ghost use Rattle.ctrl_codec.specs.Requests.{requests, body_of};
+ghost use Rattle.ctrl_codec.specs.RequestRoom.{requests_within};
+
+use crate::codes::{IGNORED, LARGEST_DATA};
+use crate::command::Command;
+use crate::request::{Request, RequestFault};
+use vt_base::{Grammar, Missing, byte_of, field_of, number_of};
+
+/// The grammar of control requests.
+pub(crate) struct Requests;
+
+fn request_of(command: Command, rest: &[u8]) -> Result<Result<Request, RequestFault>, Missing>
+    ensures { result ≡ judged (body_of command) rest.now }
+{
+    Ok(Ok(match command {
+        Command::GetCapability => Request::GetCapability,
+        Command::Init => {
+            let (flags, _) = number_of(rest)?;
+            Request::Init { flags }
+        }
+        Command::Shutdown => Request::Shutdown,
+        Command::GetEstablished => Request::GetEstablished,
+        Command::SetLocality => {
+            let (locality, rest) = byte_of(rest)?;
+            let _ignored = field_of(rest, IGNORED)?;
+            Request::SetLocality { locality }
+        }
+        Command::CancelCommand => Request::CancelCommand,
+        Command::StoreVolatile => Request::StoreVolatile,
+        Command::ResetEstablished => {
+            let (locality, rest) = byte_of(rest)?;
+            let _ignored = field_of(rest, IGNORED)?;
+            Request::ResetEstablished { locality }
+        }
+        Command::GetStateBlob => {
+            let (flags, rest) = number_of(rest)?;
+            let (kind, rest) = number_of(rest)?;
+            let (offset, _) = number_of(rest)?;
+            Request::GetStateBlob {
+                flags,
+                kind,
+                offset,
+            }
+        }
+        Command::SetStateBlob => {
+            let (flags, rest) = number_of(rest)?;
+            let (kind, rest) = number_of(rest)?;
+            let (length, rest) = number_of(rest)?;
+            if length as usize > LARGEST_DATA {
+                return Ok(Err(RequestFault::Length(length)));
+            }
+            let _data = field_of(rest, length as usize)?;
+            Request::SetStateBlob {
+                flags,
+                kind,
+                length,
+            }
+        }
+        Command::Stop => Request::Stop,
+        Command::GetConfig => Request::GetConfig,
+        Command::SetBufferSize => {
+            let (size, _) = number_of(rest)?;
+            Request::SetBufferSize { size }
+        }
+    }))
+}
+
+impl Grammar for Requests {
+    type End = Result<Request, RequestFault>;
+
+    ghost layout = { λ _. requests };
+
+    ghost room = { λ _. 4112 };
+
+    ghost within = { λ _. requests_within };
+
+    #[tactic(auto, unfolding(crate::specs::Requests::requests))]
+    fn judge(&self, bytes: &[u8]) -> Result<Result<Request, RequestFault>, Missing> {
+        let (code, rest) = number_of(bytes)?;
+        match Command::from_code(code) {
+            Some(command) => request_of(command, rest),
+            None => Ok(Err(RequestFault::Code(code))),
+        }
+    }
+}
