@@ -18,26 +18,26 @@ use Rattle.vt_base.proofs.Fronts.{found, chosen}
 use Rattle.ctrl_codec.specs.Requests.{Ending, IsInRange, HasData, Asks, Refuses, spelling, whole, locality_then, body_of, body_at, requests}
 
 -- What the bytes of an ending are.
-abbrev pub Says : Ending → List ℕ → Type 0
-Says (Ok q) bytes = Asks q (drop 16 bytes) bytes
-Says (Err fault) bytes = Refuses fault bytes
+abbrev pub AsksEnding : Ending → List ℕ → Type 0
+AsksEnding (Ok q) bytes = Asks q (drop 16 bytes) bytes
+AsksEnding (Err fault) bytes = Refuses fault bytes
 
-place : (code : ℕ) (d end : Ending) (r rest : List ℕ) → d ≡ end → rest ≡ r → Says d (number code ++ r) → Says end (number code ++ rest)
+place : (code : ℕ) (d end : Ending) (r rest : List ℕ) → d ≡ end → rest ≡ r → AsksEnding d (number code ++ r) → AsksEnding end (number code ++ rest)
 place code d end r rest same parts says =
-    subst (λ (e : Ending). Says e (number code ++ rest)) same (subst (λ (t : List ℕ). Says d (number code ++ t)) (sym parts) says)
+    subst (λ (e : Ending). AsksEnding e (number code ++ rest)) same (subst (λ (t : List ℕ). AsksEnding d (number code ++ t)) (sym parts) says)
 
-bare : (code : ℕ) (q : Request) (end : Ending) (rest : List ℕ) → Spells (whole q) end rest → Says (Ok q) (number code ++ []) → Says end (number code ++ rest)
+bare : (code : ℕ) (q : Request) (end : Ending) (rest : List ℕ) → Spells (whole q) end rest → AsksEnding (Ok q) (number code ++ []) → AsksEnding end (number code ++ rest)
 bare code q end rest h says = place code (Ok q) end [] rest h.0 h.1 says
 
 one : (code : ℕ) (make : ℕ → Request) (end : Ending) (rest : List ℕ) → IsBytes rest → Spells (number_then (λ n. whole (make n))) end rest
-    → ((n : ℕ) → n < 2 ^ 32 → Says (Ok (make n)) (number code ++ number n)) → Says end (number code ++ rest)
+    → ((n : ℕ) → n < 2 ^ 32 → AsksEnding (Ok (make n)) (number code ++ number n)) → AsksEnding end (number code ++ rest)
 one code make end rest fits h says =
     let n = from_be_bytes w32 (take 4 rest) in
     let w = word rest fits h.0 in
     place code (Ok (make n)) end (number n) rest h.1.0 (w.parts ∙ ap (λ (t : List ℕ). number n ++ t) h.1.1) (says n w.below)
 
 located : (code : ℕ) (make : ℕ → Request) (end : Ending) (rest : List ℕ) → IsBytes rest → Spells (locality_then (λ n. whole (make n))) end rest
-    → ((n : ℕ) (ignored : List ℕ) → n < 2 ^ 8 → length ignored ≡ 3 → Says (Ok (make n)) (number code ++ n ∷ ignored)) → Says end (number code ++ rest)
+    → ((n : ℕ) (ignored : List ℕ) → n < 2 ^ 8 → length ignored ≡ 3 → AsksEnding (Ok (make n)) (number code ++ n ∷ ignored)) → AsksEnding end (number code ++ rest)
 located code make end [] fits h says = absurd (omega (arith, h.0))
 located code make end (n ∷ ignored) fits h says =
     let none = nil_from_length (drop 3 ignored) (ap length h.1.1.1) in
@@ -64,7 +64,7 @@ words bytes fits p q r =
 
 three : (code : ℕ) (make : ℕ → ℕ → ℕ → Request) (end : Ending) (rest : List ℕ) → IsBytes rest
     → Spells (number_then (λ a. number_then (λ b. number_then (λ c. whole (make a b c))))) end rest
-    → ((a b c : ℕ) → (a < 2 ^ 32) × (b < 2 ^ 32) × (c < 2 ^ 32) → Says (Ok (make a b c)) (number code ++ number a ++ number b ++ number c)) → Says end (number code ++ rest)
+    → ((a b c : ℕ) → (a < 2 ^ 32) × (b < 2 ^ 32) × (c < 2 ^ 32) → AsksEnding (Ok (make a b c)) (number code ++ number a ++ number b ++ number c)) → AsksEnding end (number code ++ rest)
 three code make end rest fits h says =
     let w = words rest fits h.0 h.1.0 h.1.1.0 in
     let a = from_be_bytes w32 (take 4 rest) in
@@ -72,7 +72,7 @@ three code make end rest fits h says =
     let c = from_be_bytes w32 (take 4 (drop 4 (drop 4 rest))) in
     place code (Ok (make a b c)) end (number a ++ number b ++ number c) rest h.1.1.1.0 (w.parts ∙ ap (λ (t : List ℕ). number a ++ number b ++ number c ++ t) h.1.1.1.1) (says a b c w.below)
 
-blob : (end : Ending) (rest : List ℕ) → IsBytes rest → Spells (body_of command.SetStateBlob) end rest → Says end (number 13 ++ rest)
+blob : (end : Ending) (rest : List ℕ) → IsBytes rest → Spells (body_of command.SetStateBlob) end rest → AsksEnding end (number 13 ++ rest)
 blob end rest fits h =
     let w = words rest fits h.0 h.1.0 h.1.1.0 in
     let a = from_be_bytes w32 (take 4 rest) in
@@ -90,7 +90,7 @@ blob end rest fits h =
           (record { in_range = w.below; has_data = (len, within); spelled = (0 ∷ 0 ∷ 0 ∷ [], refl, refl) })
     ]
 
-body_says : (c : Command) (end : Ending) (rest : List ℕ) → IsBytes rest → Spells (body_of c) end rest → Says end (number (code_of c) ++ rest)
+body_says : (c : Command) (end : Ending) (rest : List ℕ) → IsBytes rest → Spells (body_of c) end rest → AsksEnding end (number (code_of c) ++ rest)
 body_says command.GetCapability end rest fits h = bare 1 GetCapability end rest h (record { in_range = tt; has_data = refl; spelled = (0 ∷ 0 ∷ 0 ∷ [], refl, refl) })
 body_says command.Init end rest fits h = one 2 Init end rest fits h (λ n lt. record { in_range = lt; has_data = refl; spelled = (0 ∷ 0 ∷ 0 ∷ [], refl, refl) })
 body_says command.Shutdown end rest fits h = bare 3 Shutdown end rest h (record { in_range = tt; has_data = refl; spelled = (0 ∷ 0 ∷ 0 ∷ [], refl, refl) })
@@ -108,12 +108,12 @@ body_says command.SetBufferSize end rest fits h = one 17 SetBufferSize end rest 
 code_is : (code : ℕ) (c : Command) → command_at code ≡ Some c → code_of c ≡ code
 code_is code c e = eqb-true _ _ (found (λ k. code_of k == code) commands c e)
 
-body_at_says : (code : ℕ) (o : Option Command) (end : Ending) (rest : List ℕ) → code < 2 ^ 32 → command_at code ≡ o → IsBytes rest → Spells (body_at code o) end rest → Says end (number code ++ rest)
+body_at_says : (code : ℕ) (o : Option Command) (end : Ending) (rest : List ℕ) → code < 2 ^ 32 → command_at code ≡ o → IsBytes rest → Spells (body_at code o) end rest → AsksEnding end (number code ++ rest)
 body_at_says code None end rest lt at fits h = place code (Err (Code code)) end [] rest h.0 h.1 (lt, at, refl)
 body_at_says code (Some c) end rest lt at fits h = rw (← code_is code c at) (body_says c end rest fits h)
 
 -- What the layout tells is what the bytes say.
-pub says : (end : Ending) (bytes : List ℕ) → IsBytes bytes → Spells requests end bytes → Says end bytes
+pub says : (end : Ending) (bytes : List ℕ) → IsBytes bytes → Spells requests end bytes → AsksEnding end bytes
 unfolding requests
 says end bytes fits h =
     let code = from_be_bytes w32 (take 4 bytes) in

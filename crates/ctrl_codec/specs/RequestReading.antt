@@ -39,7 +39,7 @@ IfMore answer P = ⊤
 abbrev pub HasNoRequest : List ℕ → Type 0
 HasNoRequest bytes = (n : ℕ) (q : Request) (payload : List ℕ) → Asks q payload (take n bytes) → ⊥
 
--- Nor is a field that is whole refused.
+-- No request is whole at the front of these bytes, and no field that is whole is refused.
 pub record IsUndecided (bytes : List ℕ) : Type 0 where
   pub no_request : HasNoRequest bytes
   pub no_refusal : (n : ℕ) (fault : RequestFault) → Refuses fault (take n bytes) → ⊥

@@ -11,6 +11,22 @@ use Rattle.ctrl_codec.specs.declared.request.RequestFault.{RequestFault}
 use Rattle.ctrl_codec.specs.declared.request.RequestFault.TheVariants.{Code, Length}
 use Rattle.ctrl_codec.specs.Commands.{command_at}
 
+-- the command of a request
+abbrev pub command_of : Request → Command
+command_of GetCapability = command.GetCapability
+command_of (Init flags) = command.Init
+command_of Shutdown = command.Shutdown
+command_of GetEstablished = command.GetEstablished
+command_of (SetLocality locality) = command.SetLocality
+command_of CancelCommand = command.CancelCommand
+command_of StoreVolatile = command.StoreVolatile
+command_of (ResetEstablished locality) = command.ResetEstablished
+command_of (GetStateBlob flags kind offset) = command.GetStateBlob
+command_of (SetStateBlob flags kind len) = command.SetStateBlob
+command_of Stop = command.Stop
+command_of GetConfig = command.GetConfig
+command_of (SetBufferSize size) = command.SetBufferSize
+
 -- ---- the one spelling of each request
 
 -- a request, the three bytes that nobody looks at, where it has them, and its data

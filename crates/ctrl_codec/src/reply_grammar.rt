@@ -92,13 +92,15 @@ fn reply_of(command: Command, bytes: &[u8]) -> Judged
 impl Grammar for Replies {
     type End = Result<Reply, ReplyFault>;
 
+    ghost use Rattle.ctrl_codec.specs.declared.codes.TheConstants.{LARGEST_MESSAGE};
+
     ghost layout = { λ g. replies_to g.0 };
 
-    ghost room = { λ _. 4112 };
+    ghost room = { λ _. LARGEST_MESSAGE };
 
     ghost within = { λ g. replies_within g.0 };
 
-    fn judge(&self, bytes: &[u8]) -> Result<Result<Reply, ReplyFault>, Missing> {
+    fn judge(&self, bytes: &[u8]) -> Judged {
         reply_of(self.0, bytes)
     }
 }

@@ -1,3 +1,8 @@
+// Control requests.
+ghost use Rattle.std.specs.Prelude.{◌≡◌};
+
+use crate::command::Command;
+
 /// A control request, without the data that goes with it. The commands are swtpm's, the bodies our own.
 #[derive(Clone, Copy, Debug, PartialEq, Eq)]
 pub enum Request {
@@ -27,6 +32,31 @@ pub enum Request {
     GetConfig,
     /// Sets the size of the buffer of commands and responses, or asks for it by 0.
     SetBufferSize { size: u32 },
+}
+
+impl Request {
+    ghost use Rattle.ctrl_codec.specs.Requests.{command_of};
+
+    /// The command of this request.
+    pub fn command(&self) -> Command
+        ensures { result ≡ command_of self.now }
+    {
+        match self {
+            Request::GetCapability => Command::GetCapability,
+            Request::Init { .. } => Command::Init,
+            Request::Shutdown => Command::Shutdown,
+            Request::GetEstablished => Command::GetEstablished,
+            Request::SetLocality { .. } => Command::SetLocality,
+            Request::CancelCommand => Command::CancelCommand,
+            Request::StoreVolatile => Command::StoreVolatile,
+            Request::ResetEstablished { .. } => Command::ResetEstablished,
+            Request::GetStateBlob { .. } => Command::GetStateBlob,
+            Request::SetStateBlob { .. } => Command::SetStateBlob,
+            Request::Stop => Command::Stop,
+            Request::GetConfig => Command::GetConfig,
+            Request::SetBufferSize { .. } => Command::SetBufferSize,
+        }
+    }
 }
 
 /// Why bytes begin no request.

@@ -94,8 +94,14 @@ fn requests_both_ways(rt: HostRuntime) -> Result<(), Fail> {
     is_request(&rt, &mut reader, unknown, &[], &GET_TYPE_4);
     let locality = Request::SetLocality { locality: 3 };
     is_request(&rt, &mut reader, locality, &[], &[0, 0, 0, 5, 3, 0, 0, 0]);
+    Ok(())
+}
 
-    // The ignored bytes may be any, and a code outside the profile is refused.
+/// The ignored bytes may be any, and a code outside the profile is refused.
+#[test]
+fn ignored_and_refused(rt: HostRuntime) -> Result<(), Fail> {
+    let mut reader = RequestReader::new(rt.alloc())?;
+    let locality = Request::SetLocality { locality: 3 };
     assert_eq!(rt;
         reader.feed(&[0, 0, 0, 5, 3, 0xFF, 1, 2]),
         (8, FedRequest::Whole(locality))
@@ -136,6 +142,7 @@ fn is_reply(rt: &impl Abort, code: u32, r: Reply, tail: &[u8], bytes: &[u8])
             assert_eq!(rt; i + 1, bytes.len());
             break;
         };
+        assert!(rt; i + 1 < bytes.len());
     }
     assert_eq!(rt; reader.data(), tail);
 }
@@ -157,6 +164,27 @@ fn replies_both_ways(rt: HostRuntime) {
         greatest: 0x1000,
     };
     is_reply(&rt, 0x11, buffer, &[], &BUFFER);
+    is_reply(
+        &rt,
+        4,
+        Reply::Established { result: 0, bit: 1 },
+        &[],
+        &[0, 0, 0, 0, 1, 0, 0, 0],
+    );
+    is_reply(
+        &rt,
+        15,
+        Reply::Config {
+            result: 0,
+            flags: 0,
+        },
+        &[],
+        &[0, 0, 0, 0, 0, 0, 0, 0],
+    );
+}
+
+#[test]
+fn blobs_both_ways(rt: HostRuntime) {
     let volatile = Reply::Blob {
         result: 0,
         flags: 0,
@@ -176,23 +204,6 @@ fn replies_both_ways(rt: HostRuntime) {
         refused,
         &[],
         &BAD_PARAMETER,
-    );
-    is_reply(
-        &rt,
-        4,
-        Reply::Established { result: 0, bit: 1 },
-        &[],
-        &[0, 0, 0, 0, 1, 0, 0, 0],
-    );
-    is_reply(
-        &rt,
-        15,
-        Reply::Config {
-            result: 0,
-            flags: 0,
-        },
-        &[],
-        &[0, 0, 0, 0, 0, 0, 0, 0],
     );
 }
 

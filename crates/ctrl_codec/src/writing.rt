@@ -3,11 +3,6 @@ ghost use Rattle.std.specs.Prelude.{◌≡◌, ◌∷◌, []};
 ghost use Rattle.ctrl_codec.specs.Requests.{HasData, spelling};
 ghost use Rattle.ctrl_codec.specs.Replies.{ReplyHasData, reply_spelling};
 
-use crate::codes::{
-    CANCEL_TPM_CMD, GET_CAPABILITY, GET_CONFIG, GET_STATEBLOB, GET_TPMESTABLISHED, INIT,
-    RESET_TPMESTABLISHED, SET_BUFFERSIZE, SET_LOCALITY, SET_STATEBLOB, SHUTDOWN, STOP,
-    STORE_VOLATILE,
-};
 use crate::out::Out;
 use crate::reply::Reply;
 use crate::request::Request;
@@ -18,30 +13,16 @@ pub fn write_request(q: &Request, tail: &[u8], into: &mut Out)
     requires data { HasData q.now tail.now }
     ensures { into.new ≡ spelling q.now (0 ∷ 0 ∷ 0 ∷ []) tail.now }
 {
+    into.push_number(q.command().code());
     match *q {
-        Request::GetCapability => into.push_number(GET_CAPABILITY),
-        Request::Init { flags } => {
-            into.push_number(INIT);
-            into.push_number(flags);
-        }
-        Request::Shutdown => into.push_number(SHUTDOWN),
-        Request::GetEstablished => into.push_number(GET_TPMESTABLISHED),
-        Request::SetLocality { locality } => {
-            into.push_number(SET_LOCALITY);
-            into.push(&[locality, 0, 0, 0]);
-        }
-        Request::CancelCommand => into.push_number(CANCEL_TPM_CMD),
-        Request::StoreVolatile => into.push_number(STORE_VOLATILE),
-        Request::ResetEstablished { locality } => {
-            into.push_number(RESET_TPMESTABLISHED);
-            into.push(&[locality, 0, 0, 0]);
-        }
+        Request::Init { flags } => into.push_number(flags),
+        Request::SetLocality { locality } => into.push(&[locality, 0, 0, 0]),
+        Request::ResetEstablished { locality } => into.push(&[locality, 0, 0, 0]),
         Request::GetStateBlob {
             flags,
             kind,
             offset,
         } => {
-            into.push_number(GET_STATEBLOB);
             into.push_number(flags);
             into.push_number(kind);
             into.push_number(offset);
@@ -51,18 +32,19 @@ pub fn write_request(q: &Request, tail: &[u8], into: &mut Out)
             kind,
             length,
         } => {
-            into.push_number(SET_STATEBLOB);
             into.push_number(flags);
             into.push_number(kind);
             into.push_number(length);
             into.push(tail);
         }
-        Request::Stop => into.push_number(STOP),
-        Request::GetConfig => into.push_number(GET_CONFIG),
-        Request::SetBufferSize { size } => {
-            into.push_number(SET_BUFFERSIZE);
-            into.push_number(size);
-        }
+        Request::SetBufferSize { size } => into.push_number(size),
+        Request::GetCapability
+        | Request::Shutdown
+        | Request::GetEstablished
+        | Request::CancelCommand
+        | Request::StoreVolatile
+        | Request::Stop
+        | Request::GetConfig => {}
     }
 }
 
