@@ -1,0 +1,10 @@
+pub mod Commands
+pub mod Progress
+pub mod Reading
+pub mod Replies
+pub mod ReplyReading
+pub mod ReplyRoom
+pub mod RequestReading
+pub mod RequestRoom
+pub mod RequestStreams
+pub mod Requests

@@ -1,0 +1,69 @@
+// Control requests.
+ghost use Rattle.std.specs.Prelude.{◌≡◌};
+
+use crate::command::Command;
+
+/// A control request, without the data that goes with it. The commands are swtpm's, the bodies our own.
+#[derive(Clone, Copy, Debug, PartialEq, Eq)]
+pub enum Request {
+    /// Asks what the emulator can do.
+    GetCapability,
+    /// Switches the TPM on; bit 0 of the flags deletes the volatile state.
+    Init { flags: u32 },
+    /// Switches the TPM off and ends.
+    Shutdown,
+    /// Asks whether the flag tpmEstablished is set.
+    GetEstablished,
+    /// Sets the locality of the commands that follow. Three ignored bytes follow it.
+    SetLocality { locality: u8 },
+    /// Gives up the command that is executed.
+    CancelCommand,
+    /// Stores the volatile state.
+    StoreVolatile,
+    /// Clears the flag tpmEstablished, from this locality. Three ignored bytes follow it.
+    ResetEstablished { locality: u8 },
+    /// Asks for a piece of a blob of state, from this offset on.
+    GetStateBlob { flags: u32, kind: u32, offset: u32 },
+    /// Gives a piece of a blob of state, as so many bytes of data, at most 4096.
+    SetStateBlob { flags: u32, kind: u32, length: u32 },
+    /// Switches the TPM off.
+    Stop,
+    /// Asks how the emulator was configured.
+    GetConfig,
+    /// Sets the size of the buffer of commands and responses, or asks for it by 0.
+    SetBufferSize { size: u32 },
+}
+
+impl Request {
+    ghost use Rattle.ctrl_codec.specs.Requests.{command_of};
+
+    /// The command of this request.
+    pub fn command(&self) -> Command
+        ensures { result ≡ command_of self.now }
+    {
+        match self {
+            Request::GetCapability => Command::GetCapability,
+            Request::Init { .. } => Command::Init,
+            Request::Shutdown => Command::Shutdown,
+            Request::GetEstablished => Command::GetEstablished,
+            Request::SetLocality { .. } => Command::SetLocality,
+            Request::CancelCommand => Command::CancelCommand,
+            Request::StoreVolatile => Command::StoreVolatile,
+            Request::ResetEstablished { .. } => Command::ResetEstablished,
+            Request::GetStateBlob { .. } => Command::GetStateBlob,
+            Request::SetStateBlob { .. } => Command::SetStateBlob,
+            Request::Stop => Command::Stop,
+            Request::GetConfig => Command::GetConfig,
+            Request::SetBufferSize { .. } => Command::SetBufferSize,
+        }
+    }
+}
+
+/// Why bytes begin no request.
+#[derive(Clone, Copy, Debug, PartialEq, Eq)]
+pub enum RequestFault {
+    /// The profile has no command of this code.
+    Code(u32),
+    /// The data would have so many bytes, more than 4096.
+    Length(u32),
+}
