@@ -1,5 +1,5 @@
 -- Frames and parts of frames.
-use Rattle.std.proofs.Common.{◌≡◌, List, [], ℕ, ◌-◌, ◌≤◌, arith, length, take, drop, min, max, refl, ap, ◌∙◌}
+use Rattle.std.proofs.Common.{◌≡◌, List, [], ℕ, ◌-◌, ◌≤◌, arith, length, take, drop, min, max, refl, ap, sym, ◌∙◌}
 use Rattle.std.specs.Int.{w32, from_be_bytes}
 use Rattle.std.proofs.lemmas.List.{length-take, length-drop, take_all, drop_all, drop-take, take-take}
 use Rattle.tpm_frame.specs.Frame.{number_at, short}
@@ -23,11 +23,25 @@ length_told bytes long fits size =
     let told : from_be_bytes w32 (take 4 (drop 2 (take 6 bytes))) ≡ length bytes = ap (from_be_bytes w32) (size_told bytes) ∙ size in
     ap (λ (n : ℕ). min (max n 10) 3968) told ∙ omega (arith, long, fits)
 
-pub sized_is_frame : (bytes : List ℕ) → 10 ≤ length bytes → length bytes ≤ 3968 → number_at w32 2 bytes ≡ length bytes → IsFrame bytes
+-- bytes as long as their first six tell are a frame
+told_is_frame : (bytes : List ℕ) → frame_length_of (take 6 bytes) ≡ length bytes → IsFrame bytes
 unfolding frames
-sized_is_frame bytes long fits size =
-    let told = length_told bytes long fits size in
-    (omega (arith, long), (omega (arith, told, length-drop 6 bytes), (refl, drop_all (frame_length_of (take 6 bytes) - 6) (drop 6 bytes) (omega (arith, told, length-drop 6 bytes)))))
+told_is_frame bytes told =
+    (omega (arith, told), (omega (arith, told, length-drop 6 bytes), (refl, drop_all (frame_length_of (take 6 bytes) - 6) (drop 6 bytes) (omega (arith, told, length-drop 6 bytes)))))
+
+pub sized_is_frame : (bytes : List ℕ) → 10 ≤ length bytes → length bytes ≤ 3968 → number_at w32 2 bytes ≡ length bytes → IsFrame bytes
+sized_is_frame bytes long fits size = told_is_frame bytes (length_told bytes long fits size)
+
+-- the first six bytes tell as much as all
+pub first_tell : (bytes : List ℕ) → frame_length_of (take 6 bytes) ≡ frame_length_of bytes
+first_tell bytes = ap (λ (xs : List ℕ). min (max (from_be_bytes w32 xs) 10) 3968) (size_told bytes)
+
+-- as many bytes as their front tells are a frame
+pub front_is_frame : (bytes : List ℕ) (size : ℕ) → size ≡ frame_length_of bytes → size ≤ length bytes → IsFrame (take size bytes)
+front_is_frame bytes size told fits =
+    let whole : length (take size bytes) ≡ size = omega (arith, length-take size bytes, fits) in
+    let head : take 6 (take size bytes) ≡ take 6 bytes = take-take 6 size bytes (omega (arith, told)) in
+    told_is_frame (take size bytes) (ap frame_length_of head ∙ first_tell bytes ∙ sym told ∙ sym whole)
 
 -- a response that has a code alone is a frame
 pub short_is_frame : (code : ℕ) → IsFrame (short code)

@@ -9,6 +9,10 @@ use Rattle.vt_base.specs.Layout.{Layout, Ends, Field, Spells, IsOpen, IsWithin}
 abbrev pub frame_length_of : List ℕ → ℕ
 frame_length_of head = min (max (from_be_bytes w32 (take 4 (drop 2 head))) 10) 3968
 
+-- the frame at the front of these bytes, or all of them where it isn't whole
+abbrev pub first_frame : List ℕ → List ℕ
+first_frame bytes = take (frame_length_of (take 6 bytes)) bytes
+
 -- six bytes, and as many more as make up the length that they tell
 unfoldable pub frames : Layout (Unit {0})
 frames = Field 6 (λ head. Field (frame_length_of head - 6) (λ body. Ends tt))

@@ -2,7 +2,7 @@
 
 ghost use Rattle.std.specs.Prelude.{◌≡◌, ◌≤◌, ◌++◌, length, [], take, true, IfOk};
 ghost use Rattle.std.specs.Bool.{OnTrue, OnFalse};
-ghost use Rattle.tpm_frame.specs.Frames.{frames, frame_length_of, frames_within, IsFrame, IsPart};
+ghost use Rattle.tpm_frame.specs.Frames.{frames, frame_length_of, first_frame, frames_within, IsFrame, IsPart};
 
 use crate::{HEADER_SIZE, LARGEST_FRAME, SIZE_FIELD, u32_at};
 use std::alloc::{AllocError, Global};
@@ -19,6 +19,18 @@ pub fn frame_length(head: &[u8]) -> usize
 {
     let size = u32_at(head, SIZE_FIELD) as usize;
     size.clamp(HEADER_SIZE, LARGEST_FRAME)
+}
+
+/// The frame at the front of the bytes, as long as `frame_length` says; or all of them, where they are fewer.
+pub fn first_frame(bytes: &[u8]) -> &[u8]
+    requires { 6 ≤ length bytes.now }
+    ensures front { result.now ≡ first_frame bytes.now }
+    ensures fits { length result.now ≤ 3968 }
+    ensures whole { frame_length_of bytes.now ≤ length bytes.now → IsFrame result.now }
+{
+    let size = frame_length(bytes).min(bytes.len());
+    let (front, _) = bytes.split_at(size);
+    front
 }
 
 /// What a piece came to.

@@ -14,7 +14,7 @@ mod sizes;
 #[cfg(test)]
 mod tests;
 
-pub use cutter::{Cutter, Took, frame_length};
+pub use cutter::{Cutter, Took, first_frame, frame_length};
 pub use sizes::{SIZE_FIELD, SIZE_FIELD_LENGTH, is_length, is_well_sized};
 use vt_base::{BUFFER_LENGTH, Buf};
 
@@ -82,7 +82,8 @@ fn u16_at(bytes: &[u8], at: usize) -> u16
     u16::from_be_bytes([bytes[at], bytes[at + 1]])
 }
 
-fn u32_at(bytes: &[u8], at: usize) -> u32
+/// The number in four bytes at a place, its highest byte first. The bytes have to be there.
+pub fn u32_at(bytes: &[u8], at: usize) -> u32
     requires { at + 4 ≤ length bytes.now }
     ensures { result ≡ number_at w32 at bytes.now }
 {

@@ -62,6 +62,26 @@ fn lengths(rt: HostRuntime) {
     }
 }
 
+#[test]
+fn first_frames(rt: HostRuntime) {
+    for (bytes, wanted) in [
+        (START.as_slice(), START.as_slice()),
+        (
+            &[0x80, 1, 0, 0, 0, 10, 0, 0, 1, 0x45, 0x80, 1],
+            &[0x80, 1, 0, 0, 0, 10, 0, 0, 1, 0x45],
+        ),
+        // A size field below ten; fewer bytes than it says.
+        (
+            &[0x80, 1, 0, 0, 0, 2, 0, 0, 1, 0x45, 7],
+            &[0x80, 1, 0, 0, 0, 2, 0, 0, 1, 0x45],
+        ),
+        (&START[..11], &START[..11]),
+    ] {
+        assert_eq!(rt; first_frame(bytes), wanted);
+    }
+    assert_eq!(rt; first_frame(&[0xFF; 4000]).len(), 3968);
+}
+
 /// Feeds a piece, and compares how much of it was taken and whether a frame is whole.
 fn fed(rt: &impl Abort, cutter: &mut Cutter, piece: &[u8], used: usize, whole: bool) {
     assert_eq!(rt; cutter.feed(piece), Took { used, whole });
