@@ -2,7 +2,7 @@
 use Rattle.std.proofs.Common.{◌≡◌, ℕ, ◌^◌, ◌<◌, Bool, true, false, List, [], ◌∷◌, ◌++◌, length, get_or, set, take, cond, ltb, subst, Option, Some, None, refl, sym, ap, ◌∙◌, arith, inl, inr}
 use Rattle.std.specs.Prelude.{IfSome}
 use Rattle.std.proofs.lemmas.Bool.{cases_eq, ltb-true}
-use Rattle.std.proofs.lemmas.List.{length-set, get_or-set_same, get_or-set_other, get_or-take, get_or-replicate, length-replicate}
+use Rattle.std.proofs.lemmas.List.{length-set, get_or-set_same, get_or-set_other, get_or-take, get_or-replicate, length-replicate, length-take}
 use Rattle.std.proofs.lemmas.List.FromFn.{fill_by_all}
 use Rattle.tpm_core.specs.declared.algorithm.Algorithm.{Algorithm}
 use Rattle.tpm_core.specs.declared.algorithm.Algorithm.TheVariants.{Sha256}
@@ -88,8 +88,11 @@ kept_width a registers h i lt = ap length (get_or-take 16 registers i [] lt) ∙
 kept_bank : (a : Algorithm) (v : TpmParts) → IsFit v → HaveWidth a 16 (kept_bank_of a (kept v))
 kept_bank Sha256 v fit = kept_width Sha256 v.pcr (fit.width Sha256)
 
+length-kept_bank : (a : Algorithm) (v : TpmParts) → IsFit v → length (kept_bank_of a (kept v)) ≡ 16
+length-kept_bank Sha256 v fit = omega (arith, length-take 16 v.pcr, fit.registers Sha256)
+
 kept_is_kept : (v : TpmParts) → IsFit v → IsKept (kept v)
-kept_is_kept v fit = record { counter = fit.counter; width = λ a. kept_bank a v fit }
+kept_is_kept v fit = record { counter = fit.counter; registers = λ a. length-kept_bank a v fit; width = λ a. kept_bank a v fit }
 
 counter_small : (state : Option SavedParts) → IfSome state IsKept → counter_at_start state < 2 ^ 32
 counter_small None h = omega arith
@@ -124,10 +127,11 @@ each P p Sha256 = p
 banks_of : (v : TpmParts) → IsBank Sha256 v.pcr → (a : Algorithm) → IsBank a (bank_of a v)
 banks_of v p = each (λ a. IsBank a (bank_of a v)) p
 
-pub fit-manufactured : (seed : List ℕ) → IsFit (manufactured seed)
-fit-manufactured seed =
+pub fit-manufactured : (seed : List ℕ) → length seed ≡ 32 → IsFit (manufactured seed)
+fit-manufactured seed size =
     let banks = banks_of (manufactured seed) (blank_is_bank Sha256) in
     record {
+      seed = size;
       boots = omega arith;
       draws = omega arith;
       counter = omega arith;
@@ -142,6 +146,7 @@ pub fit-after : (v : TpmParts) (deed : Deed) → IsFit v → CanDo v deed → Is
 fit-after v booted fit can =
     let banks = banks_of (after v booted) (blank_is_bank Sha256) in
     record {
+      seed = fit.seed;
       boots = omega arith;
       draws = omega arith;
       counter = omega arith;
@@ -154,6 +159,7 @@ fit-after v booted fit can =
 fit-after v (started state) fit can =
     let banks = banks_of (after v (started state)) (started_is_bank Sha256 state can) in
     record {
+      seed = fit.seed;
       boots = fit.boots;
       draws = fit.draws;
       counter = counter_small state can;
@@ -166,6 +172,7 @@ fit-after v (started state) fit can =
 fit-after v (shut_down None) fit can =
     let banks = banks_of (after v (shut_down None)) (fit.registers Sha256, fit.width Sha256) in
     record {
+      seed = fit.seed;
       boots = fit.boots;
       draws = fit.draws;
       counter = fit.counter;
@@ -178,6 +185,7 @@ fit-after v (shut_down None) fit can =
 fit-after v (shut_down (Some state)) fit can =
     let banks = banks_of (after v (shut_down (Some state))) (fit.registers Sha256, fit.width Sha256) in
     record {
+      seed = fit.seed;
       boots = fit.boots;
       draws = fit.draws;
       counter = fit.counter;
@@ -190,6 +198,7 @@ fit-after v (shut_down (Some state)) fit can =
 fit-after v drew fit can =
     let banks = banks_of (after v drew) (fit.registers Sha256, fit.width Sha256) in
     record {
+      seed = fit.seed;
       boots = fit.boots;
       draws = omega arith;
       counter = fit.counter;
@@ -202,6 +211,7 @@ fit-after v drew fit can =
 fit-after v (extended i measurements) fit can =
     let banks = banks_of (after v (extended i measurements)) (extended_is_bank Sha256 v.pcr i (digests_by Sha256 measurements) (fit.registers Sha256, fit.width Sha256) can.1) in
     record {
+      seed = fit.seed;
       boots = fit.boots;
       draws = fit.draws;
       counter = omega arith;

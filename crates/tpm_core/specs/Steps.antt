@@ -24,6 +24,7 @@ HaveWidth a n values = (i : ℕ) → i < n → length (slice_index_or values i [
 -- a state that a shutdown can keep
 pub record IsKept (state : SavedParts) : Type 0 where
   pub counter : state.counter < 2 ^ 32
+  pub registers : (a : Algorithm) → length (kept_bank_of a state) ≡ 16
   pub width : (a : Algorithm) → HaveWidth a 16 (kept_bank_of a state)
 
 -- values that agree with one another: nothing runs where the TPM isn't started, and a saved state is that of now where it is
@@ -33,6 +34,7 @@ pub record IsConsistent (v : TpmParts) : Type 0 where
 
 -- values that a TPM can have
 pub record IsFit (v : TpmParts) : Type 0 where
+  pub seed : length v.seed ≡ 32
   pub boots : v.boots < 2 ^ 64
   pub draws : v.draws < 2 ^ 64
   pub counter : v.counter < 2 ^ 32

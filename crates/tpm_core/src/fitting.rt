@@ -5,7 +5,7 @@ ghost use Rattle.tpm_core.specs.declared.algorithm.Algorithm.TheVariants.{Sha256
 ghost use Rattle.tpm_core.specs.Steps.{HaveWidth, IsKept, IsConsistent, IsFit};
 
 use crate::algorithm::SHA256_DIGEST_SIZE;
-use crate::parts::{KEPT_PCR_COUNT, PCR_COUNT, SavedParts, TpmParts};
+use crate::parts::{KEPT_PCR_COUNT, PCR_COUNT, SEED_SIZE, SavedParts, TpmParts};
 
 /// Values that agree with one another are fit.
 pub fn parts_fit(parts: &TpmParts)
@@ -15,9 +15,14 @@ pub fn parts_fit(parts: &TpmParts)
     let _boots = parts.boots;
     let _draws = parts.draws;
     let _counter = parts.counter;
+    seed_fits(&parts.seed);
     bank_fits(&parts.pcr);
     saved_fits(&parts.saved);
 }
+
+fn seed_fits(seed: &[u8; SEED_SIZE])
+    ensures { length seed.now ≡ 32 }
+{}
 
 fn saved_fits(saved: &Option<SavedParts>)
     ensures { IfSome saved.now IsKept }
@@ -35,7 +40,8 @@ fn state_fits(state: &SavedParts)
 }
 
 fn first_values_fit(registers: &[[u8; SHA256_DIGEST_SIZE]; KEPT_PCR_COUNT])
-    ensures { HaveWidth Sha256 16 registers.now }
+    ensures size { length registers.now ≡ 16 }
+    ensures width { HaveWidth Sha256 16 registers.now }
 {
     registers_fit(registers);
 }
