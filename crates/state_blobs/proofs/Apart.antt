@@ -1,0 +1,225 @@
+-- Blobs, refusals and cuts are told apart, and so are a TPM and a fault.
+use Rattle.std.proofs.Common.{◌≡◌, ◌≢◌, ℕ, ◌<◌, List, [], ◌++◌, length, take, drop, get_or, Option, Some, None, Ok, Err, refl, sym, ap, subst, ◌∙◌, arith, inl, inr, append_assoc}
+use Rattle.std.specs.Prelude.{IsSome, IfSome}
+use Rattle.std.proofs.lemmas.Bool.{cases_order}
+use Rattle.std.proofs.lemmas.List.{length-take, take-append-drop, append-nil, get_or-take}
+use Rattle.vt_base.specs.Layout.{Spells, IsOpen}
+use Rattle.vt_base.proofs.Layouts.{one_spelling}
+use Rattle.vt_base.specs.declared.words.Kind.{Kind}
+use Rattle.vt_base.specs.declared.words.Kind.TheVariants.{Permanent, Volatile, Saved}
+use Rattle.vt_base.specs.declared.words.Why.{Why}
+use Rattle.vt_base.specs.declared.words.Why.TheVariants.{Value, Cut, Extra}
+use Rattle.vt_base.specs.declared.words.Malformed.{Malformed}
+use Rattle.tpm_core.specs.declared.parts.SavedParts.{SavedParts}
+use Rattle.tpm_core.specs.declared.parts.TpmParts.{TpmParts}
+use Rattle.tpm_core.specs.Answers.{kept}
+use Rattle.tpm_core.specs.Steps.{IsFit}
+use Rattle.state_blobs.specs.declared.words.BlobFault.{BlobFault}
+use Rattle.state_blobs.specs.Texts.{saved_body, with_header, text_of, IsBlob}
+use Rattle.state_blobs.specs.Blobs.{Ending, blob}
+use Rattle.state_blobs.specs.Refusals.{FirstDiffersAt, IsRefused, IsCut}
+use Rattle.state_blobs.specs.Assembly.{TellsSaved, IsAssembled, IsNoneOrBlob, IsUnfinished, Disagrees, IsFaultFor, IsFault}
+use Rattle.state_blobs.proofs.Bodies.{blob_is_told}
+use Rattle.state_blobs.proofs.Refused.{refused_is_told}
+use Rattle.state_blobs.proofs.Told.{open_is_cut}
+use Rattle.state_blobs.proofs.Once.{running_once, saved_once}
+
+pub text_is_blob : (kind : Kind) (v : TpmParts) → IsFit v → IsBlob kind (text_of kind v)
+text_is_blob kind v fit = record { values = v; fit = fit; spelled = refl }
+
+-- two fronts of the same bytes that are told end alike, and are one
+two_fronts : (kind : Kind) (bytes : List ℕ) (d e : Ending) (m n : ℕ) → Spells (blob kind) d (take m bytes) → Spells (blob kind) e (take n bytes) → (d ≡ e) × (take m bytes ≡ take n bytes)
+two_fronts kind bytes d e m n p q = one_spelling (blob kind) d e (take m bytes) (take n bytes) (drop m bytes) (drop n bytes) p q (take-append-drop m bytes ∙ sym (take-append-drop n bytes))
+
+-- a front that is told and a blob that begins with it are one
+front_of_blob : (kind : Kind) (bytes front back : List ℕ) (d : Ending) → IsBlob kind bytes → Spells (blob kind) d front → front ++ back ≡ bytes → (d ≡ Ok tt) × (front ≡ bytes)
+front_of_blob kind bytes front back d is spelled same = one_spelling (blob kind) d (Ok tt) front bytes back [] spelled (blob_is_told kind bytes is) (same ∙ sym (append-nil bytes))
+
+abbrev fault_with : Malformed → Ending
+fault_with f = Err f
+
+no_fault : (f : Malformed) → fault_with f ≡ Ok tt → ⊥
+no_fault f e = cc
+
+same_fault : (f g : Malformed) → fault_with f ≡ fault_with g → f ≡ g
+same_fault f g e = cc
+
+same_malformed : (f g : Malformed) → f.why ≡ g.why → f.place ≡ g.place → f ≡ g
+same_malformed f g p q = ap (λ (x : Why). record f { why = x }) p ∙ ap (λ (x : ℕ). record g { place = x }) q
+
+-- A blob isn't refused.
+pub blob_not_refused : (kind : Kind) (fault : Malformed) (bytes : List ℕ) → IsBlob kind bytes → IsRefused kind fault bytes → ⊥
+blob_not_refused kind fault bytes is refused =
+    elim (refused_is_told kind fault.why fault.place bytes refused) [
+      | inl (n, told) ↦ no_fault fault (front_of_blob kind bytes (take n bytes) (drop n bytes) (Err fault) is told (take-append-drop n bytes)).0
+      | inr (less, front, extra) ↦
+          let same = (front_of_blob kind bytes (take fault.place bytes) (drop fault.place bytes) (Ok tt) is (blob_is_told kind (take fault.place bytes) front) (take-append-drop fault.place bytes)).1 in
+          absurd (omega (arith, ap length same, length-take fault.place bytes, less))
+    ]
+
+-- Bytes are refused in one way.
+pub refused_once : (kind : Kind) (f g : Malformed) (bytes : List ℕ) → IsRefused kind f bytes → IsRefused kind g bytes → f ≡ g
+refused_once kind f g bytes p q =
+    elim (refused_is_told kind f.why f.place bytes p) [
+      | inl (m, told) ↦
+          elim (refused_is_told kind g.why g.place bytes q) [
+            | inl (n, told_too) ↦ same_fault f g (two_fronts kind bytes (Err f) (Err g) m n told told_too).0
+            | inr (less, front, extra) ↦ absurd (no_fault f (two_fronts kind bytes (Err f) (Ok tt) m g.place told (blob_is_told kind (take g.place bytes) front)).0)
+          ]
+      | inr (less, front, extra) ↦
+          elim (refused_is_told kind g.why g.place bytes q) [
+            | inl (n, told) ↦ absurd (no_fault g (two_fronts kind bytes (Err g) (Ok tt) n f.place told (blob_is_told kind (take f.place bytes) front)).0)
+            | inr (less_too, front_too, extra_too) ↦
+                let same = (two_fronts kind bytes (Ok tt) (Ok tt) f.place g.place (blob_is_told kind (take f.place bytes) front) (blob_is_told kind (take g.place bytes) front_too)).1 in
+                same_malformed f g (extra ∙ sym extra_too) (omega (arith, ap length same, length-take f.place bytes, length-take g.place bytes, less, less_too))
+          ]
+    ]
+
+-- A front of a blob that isn't all of it is cut.
+pub front_is_cut : (kind : Kind) (bytes : List ℕ) (n : ℕ) → IsBlob kind bytes → n < length bytes → IsCut kind (take n bytes)
+front_is_cut kind bytes n is less = open_is_cut kind (take n bytes) none
+  where
+    none : IsOpen (blob kind) (take n bytes)
+    none end m spelled =
+        let whole : take m (take n bytes) ++ (drop m (take n bytes) ++ drop n bytes) ≡ bytes =
+        sym (append_assoc (take m (take n bytes)) (drop m (take n bytes)) (drop n bytes)) ∙ ap (λ (front : List ℕ). front ++ drop n bytes) (take-append-drop m (take n bytes)) ∙ take-append-drop n bytes in
+        let same = (front_of_blob kind bytes (take m (take n bytes)) (drop m (take n bytes) ++ drop n bytes) end is spelled whole).1 in
+        omega (arith, ap length same, length-take m (take n bytes), length-take n bytes, less)
+
+-- What the table refuses for bytes that are there, the layout refuses.
+pub refused_is_told_if : (kind : Kind) (fault : Malformed) (bytes : List ℕ) → IsRefused kind fault bytes → fault.why ≢ Extra → (n : ℕ) × Spells (blob kind) (Err fault) (take n bytes)
+refused_is_told_if kind fault bytes refused other =
+    elim (refused_is_told kind fault.why fault.place bytes refused) [
+      | inl told ↦ told
+      | inr (less, front, extra) ↦ absurd (other extra)
+    ]
+
+-- ---- a TPM and a fault
+
+-- the blob that a saved state would have
+agreeing_same : (v w : TpmParts) → v.counter ≡ w.counter → v.pcr ≡ w.pcr → text_of Saved (record v { saved = Some (kept v) }) ≡ text_of Saved (record w { saved = Some (kept w) })
+unfolding text_of
+agreeing_same v w p q =
+    ap (λ (c : ℕ). let state : SavedParts = record { counter = c; pcr = take 16 v.pcr } in with_header Saved (saved_body (Some state))) p
+    ∙ ap (λ (registers : List (List ℕ)). let state : SavedParts = record { counter = w.counter; pcr = take 16 registers } in with_header Saved (saved_body (Some state))) q
+
+saved_text : (v : TpmParts) (saved : Option SavedParts) → v.saved ≡ saved → text_of Saved v ≡ with_header Saved (saved_body saved)
+unfolding text_of
+saved_text v saved is = ap (λ (s : Option SavedParts). with_header Saved (saved_body s)) is
+
+kept_text : (v : TpmParts) (saved : Option SavedParts) → v.saved ≡ saved → IsSome saved → IfSome saved (λ state. state ≡ kept v) → text_of Saved v ≡ text_of Saved (record v { saved = Some (kept v) })
+unfolding text_of
+kept_text v None is there agrees = absurd cc
+kept_text v (Some state) is there agrees = saved_text v (Some state) is ∙ ap (λ (s : SavedParts). with_header Saved (saved_body (Some s))) agrees
+
+differs_not : (place : ℕ) (bytes wanted : List ℕ) → bytes ≡ wanted → FirstDiffersAt place bytes wanted → ⊥
+differs_not place bytes wanted same first = first.differs (ap (λ (b : List ℕ). get_or b place 0) same)
+
+told_there : (v : TpmParts) (bytes : List ℕ) → TellsSaved bytes v → IsSome v.saved → bytes ≡ text_of Saved v
+told_there v bytes (inl is) there = is
+told_there v bytes (inr (none, gone)) there = let never : IsSome {T = SavedParts} None = subst (λ (s : Option SavedParts). IsSome s) gone there in absurd cc
+
+no_disagreement : (place : ℕ) (permanent volatile saved : List ℕ) (t : TpmParts) → IsAssembled permanent volatile saved t → Disagrees place volatile saved → ⊥
+no_disagreement place permanent volatile saved t a d =
+    let running = running_once t d.running volatile a.fit d.is_fit a.is_volatile (inl d.is_volatile) in
+    let state = saved_once t d.saving saved a.fit d.is_fit_too a.is_saved (inl d.is_saved) in
+    let there : IsSome t.saved = subst (λ (s : Option SavedParts). IsSome s) (sym state) d.is_there in
+    let agrees = a.fit.kept_agrees (running.started ∙ d.is_started) in
+    let same : saved ≡ text_of Saved (record d.running { saved = Some (kept d.running) }) =
+    told_there t saved a.is_saved there ∙ kept_text t t.saved refl there agrees ∙ agreeing_same t d.running running.counter running.pcr in
+    differs_not place saved (text_of Saved (record d.running { saved = Some (kept d.running) })) same d.first
+
+-- Three blobs that make a TPM have no fault.
+not_both_at : (kind : Kind) (why : Why) (place : ℕ) (permanent volatile saved : List ℕ) (t : TpmParts) → IsAssembled permanent volatile saved t → IsFaultFor kind why place permanent volatile saved → ⊥
+not_both_at Permanent Cut place permanent volatile saved t a row = row.1 (record { values = t; fit = a.fit; spelled = a.is_permanent })
+not_both_at Volatile Cut place permanent volatile saved t a row =
+    elim a.is_volatile [
+      | inl is ↦ row.2.1 (record { values = t; fit = a.fit; spelled = is })
+      | inr (none, off) ↦ row.2.0 none
+    ]
+not_both_at Saved Cut place permanent volatile saved t a row =
+    elim a.is_saved [
+      | inl is ↦ row.3.1 (record { values = t; fit = a.fit; spelled = is })
+      | inr (none, gone) ↦ row.3.0 none
+    ]
+not_both_at Saved Value place permanent volatile saved t a row = no_disagreement place permanent volatile saved t a row.1
+not_both_at _ _ place permanent volatile saved t a row = absurd row
+
+pub not_both : (permanent volatile saved : List ℕ) (t : TpmParts) (f : BlobFault) → IsAssembled permanent volatile saved t → IsFault permanent volatile saved f → ⊥
+not_both permanent volatile saved t f a fault = not_both_at f.kind f.fault.why f.fault.place permanent volatile saved t a fault
+
+-- ---- one fault
+
+not_later : (p q : ℕ) (bytes wanted : List ℕ) → FirstDiffersAt p bytes wanted → FirstDiffersAt q bytes wanted → p < q → ⊥
+not_later p q bytes wanted a b lt = a.differs (sym (get_or-take q bytes p 0 lt) ∙ ap (λ (front : List ℕ). get_or front p 0) b.same ∙ get_or-take q wanted p 0 lt)
+
+first_once : (p q : ℕ) (bytes wanted : List ℕ) → FirstDiffersAt p bytes wanted → FirstDiffersAt q bytes wanted → p ≡ q
+first_once p q bytes wanted a b =
+    elim (cases_order p q) [
+      | inl e ↦ e
+      | inr (inl lt) ↦ absurd (not_later p q bytes wanted a b lt)
+      | inr (inr lt) ↦ absurd (not_later q p bytes wanted b a lt)
+    ]
+
+one_place : (p q : ℕ) (volatile saved : List ℕ) → Disagrees p volatile saved → Disagrees q volatile saved → p ≡ q
+one_place p q volatile saved a b =
+    let same = running_once a.running b.running volatile a.is_fit b.is_fit (inl a.is_volatile) (inl b.is_volatile) in
+    first_once p q saved (text_of Saved (record b.running { saved = Some (kept b.running) }))
+    (subst (FirstDiffersAt p saved) (agreeing_same a.running b.running same.counter same.pcr) a.first) b.first
+
+-- the same fault, told by its parts
+abbrev IsSame : Kind → Why → ℕ → Kind → Why → ℕ → Type 0
+IsSame kind why place kind_too why_too place_too = (kind ≡ kind_too) × (why ≡ why_too) × (place ≡ place_too)
+
+module _ (permanent volatile saved : List ℕ) where
+  disagree_blobs : (place : ℕ) → Disagrees place volatile saved → IsNoneOrBlob Volatile volatile × IsNoneOrBlob Saved saved
+  disagree_blobs place d = (inr (record { values = d.running; fit = d.is_fit; spelled = d.is_volatile }), inr (record { values = d.saving; fit = d.is_fit_too; spelled = d.is_saved }))
+
+  unfinished : (kind : Kind) (bytes : List ℕ) → IsUnfinished kind bytes → IsNoneOrBlob kind bytes → ⊥
+  unfinished kind bytes u (inl none) = u.0 none
+  unfinished kind bytes u (inr is) = u.1 is
+
+  permanent_alone : (p : ℕ) → IsFaultFor Permanent Cut p permanent volatile saved → (kind : Kind) (why : Why) (q : ℕ) → IsFaultFor kind why q permanent volatile saved → IsSame Permanent Cut p kind why q
+  permanent_alone p row Permanent Cut q other = (refl, refl, row.0 ∙ sym other.0)
+  permanent_alone p row Volatile Cut q other = absurd (row.1 other.1)
+  permanent_alone p row Saved Cut q other = absurd (row.1 other.1)
+  permanent_alone p row Saved Value q other = absurd (row.1 other.0)
+  permanent_alone p row _ _ q other = absurd other
+
+  volatile_alone : (p : ℕ) → IsFaultFor Volatile Cut p permanent volatile saved → (kind : Kind) (why : Why) (q : ℕ) → IsFaultFor kind why q permanent volatile saved → IsSame Volatile Cut p kind why q
+  volatile_alone p row Permanent Cut q other = absurd (other.1 row.1)
+  volatile_alone p row Volatile Cut q other = (refl, refl, row.0 ∙ sym other.0)
+  volatile_alone p row Saved Cut q other = absurd (unfinished Volatile volatile row.2 other.2)
+  volatile_alone p row Saved Value q other = absurd (unfinished Volatile volatile row.2 (disagree_blobs q other.1).0)
+  volatile_alone p row _ _ q other = absurd other
+
+  saved_alone : (p : ℕ) → IsFaultFor Saved Cut p permanent volatile saved → (kind : Kind) (why : Why) (q : ℕ) → IsFaultFor kind why q permanent volatile saved → IsSame Saved Cut p kind why q
+  saved_alone p row Permanent Cut q other = absurd (other.1 row.1)
+  saved_alone p row Volatile Cut q other = absurd (unfinished Volatile volatile other.2 row.2)
+  saved_alone p row Saved Cut q other = (refl, refl, row.0 ∙ sym other.0)
+  saved_alone p row Saved Value q other = absurd (unfinished Saved saved row.3 (disagree_blobs q other.1).1)
+  saved_alone p row _ _ q other = absurd other
+
+  value_alone : (p : ℕ) → IsFaultFor Saved Value p permanent volatile saved → (kind : Kind) (why : Why) (q : ℕ) → IsFaultFor kind why q permanent volatile saved → IsSame Saved Value p kind why q
+  value_alone p row Permanent Cut q other = absurd (other.1 row.0)
+  value_alone p row Volatile Cut q other = absurd (unfinished Volatile volatile other.2 (disagree_blobs p row.1).0)
+  value_alone p row Saved Cut q other = absurd (unfinished Saved saved other.3 (disagree_blobs p row.1).1)
+  value_alone p row Saved Value q other = (refl, refl, one_place p q volatile saved row.1 other.1)
+  value_alone p row _ _ q other = absurd other
+
+  alone : (kind : Kind) (why : Why) (p : ℕ) → IsFaultFor kind why p permanent volatile saved → (kind_too : Kind) (why_too : Why) (q : ℕ) → IsFaultFor kind_too why_too q permanent volatile saved
+      → IsSame kind why p kind_too why_too q
+  alone Permanent Cut p row kind_too why_too q other = permanent_alone p row kind_too why_too q other
+  alone Volatile Cut p row kind_too why_too q other = volatile_alone p row kind_too why_too q other
+  alone Saved Cut p row kind_too why_too q other = saved_alone p row kind_too why_too q other
+  alone Saved Value p row kind_too why_too q other = value_alone p row kind_too why_too q other
+  alone _ _ p row kind_too why_too q other = absurd row
+
+same_blob_fault : (f g : BlobFault) → f.kind ≡ g.kind → f.fault ≡ g.fault → f ≡ g
+same_blob_fault f g p q = ap (λ (x : Kind). record f { kind = x }) p ∙ ap (λ (x : Malformed). record g { fault = x }) q
+
+-- Three blobs have one fault.
+pub one_fault : (permanent volatile saved : List ℕ) (f g : BlobFault) → IsFault permanent volatile saved f → IsFault permanent volatile saved g → f ≡ g
+one_fault permanent volatile saved f g a b =
+    let same = alone permanent volatile saved f.kind f.fault.why f.fault.place a g.kind g.fault.why g.fault.place b in
+    same_blob_fault f g same.0 (same_malformed f.fault g.fault same.1 same.2)

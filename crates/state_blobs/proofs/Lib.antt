@@ -1,0 +1,10 @@
+pub mod Opens
+pub mod Marks
+pub mod Registers
+pub mod Bodies
+pub mod Refused
+pub mod Told
+pub mod Fields
+pub mod Joined
+pub mod Once
+pub mod Apart

@@ -1,0 +1,49 @@
+-- Bytes are a blob, refused or cut.
+use Rattle.std.proofs.Common.{◌≡◌, ℕ, Bool, true, false, List, ◌++◌, length, take, Result, Ok, Err, ap, ◌∙◌, arith, inl, inr}
+use Rattle.std.specs.Prelude.{OnOk, IfOk}
+use Rattle.std.specs.Bool.{OnTrue, OnFalse}
+use Rattle.std.proofs.lemmas.List.{take_all, append-nil, nil_from_length}
+use Rattle.vt_base.specs.Numbers.{IsBytes}
+use Rattle.vt_base.specs.Layout.{Spells, IsOpen}
+use Rattle.vt_base.specs.declared.words.Kind.{Kind}
+use Rattle.vt_base.specs.declared.words.Malformed.{Malformed}
+use Rattle.state_blobs.specs.Texts.{IsBlob}
+use Rattle.state_blobs.specs.Blobs.{blob}
+use Rattle.state_blobs.specs.Refusals.{IsRefused, IsCut}
+use Rattle.state_blobs.proofs.Bodies.{blob_is_told, told_is_blob}
+use Rattle.state_blobs.proofs.Refused.{refused_is_told}
+
+open_refused : (kind : Kind) (fault : Malformed) (bytes : List ℕ) → IsOpen (blob kind) bytes → IsRefused kind fault bytes → ⊥
+open_refused kind fault bytes none refused =
+    elim (refused_is_told kind fault.why fault.place bytes refused) [
+      | inl (n, told) ↦ none (Err fault) n told
+      | inr (less, is, extra) ↦ none (Ok tt) fault.place (blob_is_told kind (take fault.place bytes) is)
+    ]
+
+-- Where nothing is told yet the bytes are cut.
+pub open_is_cut : (kind : Kind) (bytes : List ℕ) → IsOpen (blob kind) bytes → IsCut kind bytes
+open_is_cut kind bytes none = record {
+  no_blob = λ is. none (Ok tt) (length bytes) (rw (take_all (length bytes) bytes (omega arith)) (blob_is_told kind bytes is));
+  not_refused = λ fault refused. open_refused kind fault bytes none refused;
+}
+
+pub blob_if_whole : (kind : Kind) (whole : Bool) (bytes : List ℕ) → IsBytes bytes → OnTrue whole (Spells (blob kind) (Ok tt) bytes) → OnTrue whole (IsBlob kind bytes)
+blob_if_whole kind true bytes fits told = told_is_blob kind bytes fits told
+blob_if_whole kind false bytes fits told = tt
+
+-- the answers of a gather
+abbrev pub Answer : Type 0
+Answer = Result Bool Malformed
+
+pub blob_if_told : (kind : Kind) (bytes : List ℕ) (answer : Answer) → OnOk answer (IsBytes bytes) → IfOk answer (λ whole. OnTrue whole (Spells (blob kind) (Ok tt) bytes))
+    → IfOk answer (λ whole. OnTrue whole (IsBlob kind bytes))
+blob_if_told kind bytes (Ok whole) fits told = blob_if_whole kind whole bytes fits told
+blob_if_told kind bytes (Err fault) fits told = tt
+
+pub cut_if_not : (kind : Kind) (whole : Bool) (bytes : List ℕ) → OnFalse whole (IsOpen (blob kind) bytes) → OnFalse whole (IsCut kind bytes)
+cut_if_not kind true bytes none = tt
+cut_if_not kind false bytes none = open_is_cut kind bytes none
+
+-- An empty piece adds nothing.
+pub nothing_more : (begun piece : List ℕ) → length piece ≡ 0 → begun ++ piece ≡ begun
+nothing_more begun piece none = ap (λ (p : List ℕ). begun ++ p) (nil_from_length piece none) ∙ append-nil begun

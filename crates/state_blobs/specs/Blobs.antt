@@ -1,0 +1,29 @@
+-- Blobs, told from the left. (Own definitions.)
+use Rattle.std.specs.Prelude.{ℕ, ◌+◌, ◌-◌, if◌then◌else◌, List, [], ◌∷◌, Result, Ok}
+use Rattle.vt_base.specs.Layout.{Layout, Ends, Field, byte_then, number_then}
+use Rattle.vt_base.specs.Refusing.{refuse, mark_then}
+use Rattle.vt_base.specs.declared.words.Kind.{Kind}
+use Rattle.vt_base.specs.declared.words.Why.TheVariants.{Magic, Version, Length, Value}
+use Rattle.vt_base.specs.declared.words.Malformed.{Malformed}
+use Rattle.state_blobs.specs.declared.format.TheConstants.{VERSION}
+use Rattle.state_blobs.specs.Texts.{magic_of, is_length, flag_fits}
+
+-- a whole blob, or why the bytes are refused
+abbrev pub Ending : Type 0
+Ending = Result (Unit {0}) Malformed
+
+-- the bytes of a magic, each at its place, or a refusal at the first that differs
+abbrev pub marks_then : List ℕ → ℕ → Layout Ending → Layout Ending
+marks_then [] place next = next
+marks_then (mark ∷ marks) place next = mark_then mark Magic place (marks_then marks (place + 1) next)
+
+-- so many bytes, of which only the first is looked at
+abbrev pub body_then : Kind → ℕ → Layout Ending
+body_then kind count = byte_then (λ flag. if flag_fits kind count flag then Field (count - 1) (λ _. Ends (Ok tt)) else refuse Value 9)
+
+-- the version, the length, and a body of that length
+abbrev pub after_magic : Kind → Layout Ending
+after_magic kind = mark_then VERSION Version 4 (number_then (λ count. if is_length kind count then body_then kind count else refuse Length 5))
+
+unfoldable pub blob : Kind → Layout Ending
+blob kind = marks_then (magic_of kind) 0 (after_magic kind)

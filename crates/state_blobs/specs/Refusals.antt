@@ -1,0 +1,43 @@
+-- Why bytes are refused as a blob: the table of refusals, row by row. (Own definitions.)
+use Rattle.std.specs.Prelude.{◌≡◌, ◌≢◌, ℕ, ◌<◌, ◌≤◌, true, false, List, [], ◌∷◌, ◌++◌, length, take, slice_index}
+use Rattle.std.specs.Int.{w32, from_be_bytes}
+use Rattle.vt_base.specs.declared.words.Kind.{Kind}
+use Rattle.vt_base.specs.declared.words.Why.{Why}
+use Rattle.vt_base.specs.declared.words.Why.TheVariants.{Magic, Version, Length, Value, Cut, Extra}
+use Rattle.vt_base.specs.declared.words.Malformed.{Malformed}
+use Rattle.state_blobs.specs.declared.format.TheConstants.{VERSION}
+use Rattle.state_blobs.specs.Texts.{magic_of, slice, IsBlob, is_length, flag_fits}
+
+-- the first place where a list isn't what is wanted
+pub record FirstDiffersAt (place : ℕ) (bytes wanted : List ℕ) : Type 0 where
+  pub there : place < length bytes
+  pub named : place < length wanted
+  pub same : take place bytes ≡ take place wanted
+  pub differs : slice_index bytes place ≢ slice_index wanted place
+
+-- the magic and the version are there, and in order
+abbrev pub BeginsAsBlob : Kind → List ℕ → Type 0
+BeginsAsBlob kind bytes = take 5 bytes ≡ magic_of kind ++ VERSION ∷ []
+
+-- the number in the length field
+abbrev pub length_field : List ℕ → ℕ
+length_field bytes = from_be_bytes w32 (slice bytes 5 4)
+
+-- Each row says that the fields before its own are in order. A field is judged when it is whole; in a magic each byte is one.
+abbrev pub IsRefusedFor : Kind → Why → ℕ → List ℕ → Type 0
+IsRefusedFor kind Magic place bytes = FirstDiffersAt place bytes (magic_of kind)
+IsRefusedFor kind Version place bytes = (place ≡ 4) × (4 < length bytes) × (take 4 bytes ≡ magic_of kind) × (slice_index bytes 4 ≢ VERSION)
+IsRefusedFor kind Length place bytes = (place ≡ 5) × (9 ≤ length bytes) × BeginsAsBlob kind bytes × (is_length kind (length_field bytes) ≡ false)
+IsRefusedFor kind Value place bytes =
+    (place ≡ 9) × (9 < length bytes) × BeginsAsBlob kind bytes × (is_length kind (length_field bytes) ≡ true) × (flag_fits kind (length_field bytes) (slice_index bytes 9) ≡ false)
+IsRefusedFor kind Cut place bytes = ⊥
+IsRefusedFor kind Extra place bytes = (place < length bytes) × IsBlob kind (take place bytes)
+
+-- Bytes so far are refused for this reason, at this place.
+abbrev pub IsRefused : Kind → Malformed → List ℕ → Type 0
+IsRefused kind fault bytes = IsRefusedFor kind fault.why fault.place bytes
+
+-- The bytes end before a blob does: they are none, and no byte of them is refused.
+pub record IsCut (kind : Kind) (bytes : List ℕ) : Type 0 where
+  pub no_blob : IsBlob kind bytes → ⊥
+  pub not_refused : (fault : Malformed) → IsRefused kind fault bytes → ⊥

@@ -1,0 +1,44 @@
+//! Pieces of a TPM's blobs.
+
+ghost use Rattle.std.specs.Prelude.{◌≡◌, ◌≤◌, ◌<◌, ◌+◌, ◌-◌, ◌++◌, ◌↔◌, length, drop, min, IfSome, IsNone, IfNone};
+ghost use Rattle.state_blobs.specs.Texts.{text_of, slice, IsBlob};
+ghost use Rattle.tpm_core.specs.Steps.{IsFit};
+
+use crate::text::{byte_at, text_length};
+use crate::words::Piece;
+use tpm_core::{Tpm, TpmParts};
+use vt_base::Kind;
+
+/// Writes the part of a TPM's blob that begins at `offset` to the front of `into`, as much as there is and has room. Where
+/// the offset is greater than the number of the blob's bytes there is none, and `into` stays as it was.
+pub fn piece(tpm: &Tpm, kind: Kind, offset: u32, into: &mut [u8]) -> Option<Piece>
+    ensures none { IsNone result ↔ (length (text_of kind tpm.now) < offset) }
+    ensures kept { IfNone result (into.new ≡ into.old) }
+    ensures total { IfSome result (λ p. p.total ≡ length (text_of kind tpm.now)) }
+    ensures length { IfSome result (λ p. p.length ≡ min (length into.old) (length (text_of kind tpm.now) - offset)) }
+    ensures bytes { IfSome result (λ p. into.new ≡ slice (text_of kind tpm.now) offset p.length ++ drop p.length into.old) }
+    ensures blob { IsBlob kind (text_of kind tpm.now) }
+{
+    let parts = tpm.parts();
+    let total = text_length(parts, kind);
+    if offset > total {
+        return None;
+    }
+    let length = into.len().min((total - offset) as usize);
+    write_part(parts, kind, offset as usize, &mut into[..length]);
+    Some(Piece {
+        total,
+        length: length as u32,
+    })
+}
+
+fn write_part(parts: &TpmParts, kind: Kind, offset: usize, into: &mut [u8])
+    requires fit { IsFit parts.now }
+    requires there { offset + length into.old ≤ length (text_of kind parts.now) }
+    requires few { offset + length into.old ≤ 790 }
+    ensures { into.new ≡ slice (text_of kind parts.now) offset (length into.old) }
+{
+    for i in 0..into.len() {
+        into[i] = byte_at(parts, kind, offset + i);
+    }
+}
