@@ -41,6 +41,7 @@ mod request_grammar;
 mod request_reader;
 mod writing;
 
+pub use codes::{DATA_PLACE, LARGEST_DATA};
 pub use command::Command;
 pub use out::Out;
 pub use reply::{Reply, ReplyFault};

@@ -20,7 +20,7 @@ use Rattle.state_blobs.specs.Blobs.{Ending, blob}
 use Rattle.state_blobs.specs.Refusals.{FirstDiffersAt, IsRefused, IsCut}
 use Rattle.state_blobs.specs.Assembly.{TellsSaved, IsAssembled, IsNoneOrBlob, IsUnfinished, Disagrees, IsFaultFor, IsFault}
 use Rattle.state_blobs.proofs.Bodies.{blob_is_told}
-use Rattle.state_blobs.proofs.Refused.{refused_is_told}
+use Rattle.state_blobs.proofs.Refused.{same_fault, whole_or_refused, refused_is_told}
 use Rattle.state_blobs.proofs.Told.{open_is_cut}
 use Rattle.state_blobs.proofs.Once.{running_once, saved_once}
 
@@ -35,15 +35,6 @@ two_fronts kind bytes d e m n p q = one_spelling (blob kind) d e (take m bytes) 
 front_of_blob : (kind : Kind) (bytes front back : List ℕ) (d : Ending) → IsBlob kind bytes → Spells (blob kind) d front → front ++ back ≡ bytes → (d ≡ Ok tt) × (front ≡ bytes)
 front_of_blob kind bytes front back d is spelled same = one_spelling (blob kind) d (Ok tt) front bytes back [] spelled (blob_is_told kind bytes is) (same ∙ sym (append-nil bytes))
 
-abbrev fault_with : Malformed → Ending
-fault_with f = Err f
-
-no_fault : (f : Malformed) → fault_with f ≡ Ok tt → ⊥
-no_fault f e = cc
-
-same_fault : (f g : Malformed) → fault_with f ≡ fault_with g → f ≡ g
-same_fault f g e = cc
-
 same_malformed : (f g : Malformed) → f.why ≡ g.why → f.place ≡ g.place → f ≡ g
 same_malformed f g p q = ap (λ (x : Why). record f { why = x }) p ∙ ap (λ (x : ℕ). record g { place = x }) q
 
@@ -51,7 +42,7 @@ same_malformed f g p q = ap (λ (x : Why). record f { why = x }) p ∙ ap (λ (x
 pub blob_not_refused : (kind : Kind) (fault : Malformed) (bytes : List ℕ) → IsBlob kind bytes → IsRefused kind fault bytes → ⊥
 blob_not_refused kind fault bytes is refused =
     elim (refused_is_told kind fault.why fault.place bytes refused) [
-      | inl (n, told) ↦ no_fault fault (front_of_blob kind bytes (take n bytes) (drop n bytes) (Err fault) is told (take-append-drop n bytes)).0
+      | inl (n, told) ↦ whole_or_refused fault (sym (front_of_blob kind bytes (take n bytes) (drop n bytes) (Err fault) is told (take-append-drop n bytes)).0)
       | inr (less, front, extra) ↦
           let same = (front_of_blob kind bytes (take fault.place bytes) (drop fault.place bytes) (Ok tt) is (blob_is_told kind (take fault.place bytes) front) (take-append-drop fault.place bytes)).1 in
           absurd (omega (arith, ap length same, length-take fault.place bytes, less))
@@ -63,12 +54,12 @@ refused_once kind f g bytes p q =
     elim (refused_is_told kind f.why f.place bytes p) [
       | inl (m, told) ↦
           elim (refused_is_told kind g.why g.place bytes q) [
-            | inl (n, told_too) ↦ same_fault f g (two_fronts kind bytes (Err f) (Err g) m n told told_too).0
-            | inr (less, front, extra) ↦ absurd (no_fault f (two_fronts kind bytes (Err f) (Ok tt) m g.place told (blob_is_told kind (take g.place bytes) front)).0)
+            | inl (n, told_too) ↦ same_fault f g (sym (two_fronts kind bytes (Err f) (Err g) m n told told_too).0)
+            | inr (less, front, extra) ↦ absurd (whole_or_refused f (sym (two_fronts kind bytes (Err f) (Ok tt) m g.place told (blob_is_told kind (take g.place bytes) front)).0))
           ]
       | inr (less, front, extra) ↦
           elim (refused_is_told kind g.why g.place bytes q) [
-            | inl (n, told) ↦ absurd (no_fault g (two_fronts kind bytes (Err g) (Ok tt) n f.place told (blob_is_told kind (take f.place bytes) front)).0)
+            | inl (n, told) ↦ absurd (whole_or_refused g (sym (two_fronts kind bytes (Err g) (Ok tt) n f.place told (blob_is_told kind (take f.place bytes) front)).0))
             | inr (less_too, front_too, extra_too) ↦
                 let same = (two_fronts kind bytes (Ok tt) (Ok tt) f.place g.place (blob_is_told kind (take f.place bytes) front) (blob_is_told kind (take g.place bytes) front_too)).1 in
                 same_malformed f g (extra ∙ sym extra_too) (omega (arith, ap length same, length-take f.place bytes, length-take g.place bytes, less, less_too))

@@ -30,13 +30,13 @@ differs_more i front more wanted first = record {
 }
 
 -- a refusal, as a message may end
-abbrev refused_with : Malformed → Ending
+abbrev pub refused_with : Malformed → Ending
 refused_with fault = Err fault
 
-same_fault : (f g : Malformed) → refused_with g ≡ refused_with f → f ≡ g
+pub same_fault : (f g : Malformed) → refused_with g ≡ refused_with f → f ≡ g
 same_fault f g e = cc
 
-whole_or_refused : (f : Malformed) → ◌≡◌ {A = Ending} (Ok tt) (Err f) → ⊥
+pub whole_or_refused : (f : Malformed) → ◌≡◌ {A = Ending} (Ok tt) (Err f) → ⊥
 whole_or_refused f e = cc
 
 -- the first byte of the body

@@ -2,11 +2,11 @@
 
 ghost use Rattle.std.specs.Prelude.{◌≡◌, ◌+◌, ◌*◌, ◌≤◌, ◌==◌, length, slice_index};
 ghost use Rattle.std.specs.List.{concat};
+ghost use Rattle.std.specs.Int.{w32, from_be_bytes};
 ghost use Rattle.tpm_core.specs.declared.parts.TpmParts.{TpmParts};
 ghost use Rattle.tpm_core.specs.Steps.{IsFit};
 ghost use Rattle.state_blobs.specs.Running.{AreRegisters};
 ghost use Rattle.state_blobs.specs.Texts.{slice, text_of, IsBlob};
-ghost use Rattle.std.specs.Int.{w32, from_be_bytes};
 ghost use Rattle.state_blobs.specs.Reading.{running_in};
 ghost use Rattle.state_blobs.specs.Assembly.{TellsVolatile, TellsSaved, IsNoneOrBlob};
 ghost use Rattle.vt_base.specs.declared.words.Kind.TheVariants.{Permanent, Volatile, Saved};

@@ -1,0 +1,18 @@
+use Rattle.std.proofs.Common.{rules, ◌≡◌, ℕ, List, Option, Some, None, length, refl, ap, sym, subst, ◌∙◌, arith}
+use Rattle.std.specs.Prelude.{IfSome}
+use Rattle.ctrl_client.specs.Link.{Link}
+use Rattle.ctrl_client.specs.Pieces.{HasRoom, Fetches}
+use Rattle.ctrl_client.proofs.Fetching.{fetch_given, fetch_refused}
+use Rattle.ctrl_client.proofs.pieces.get_piece.Goals as goal
+
+pub returns-in-Ok-clause-told : goal.returns-in-Ok-clause-told
+returns-in-Ok-clause-told g c =
+    fetch_given g.W.Wires.fails g.W.Wires.later c.args.kind c.type_of.result c.args.offset (length c.args.into.now) (g.W.Wires.link c.args.wires.now) _ _ _ c.exchange.new.reply c.args.into.now c.receive_data.new.into
+    _ _ c.read.result c.judge-judged.result c.in-Ok.piece c.receive_data.result _ c.type_of.ensures.kind (search rules) c.if-is_err.ensures.negation c.exchange.ensures.told
+    c.judge-judged.ensures.judged c.in-Ok.is c.read.ensures c.receive_data.ensures.told
+
+pub returns-in-Err-clause-told : goal.returns-in-Err-clause-told
+returns-in-Err-clause-told g c =
+    fetch_refused g.W.Wires.fails g.W.Wires.later c.args.kind c.type_of.result c.args.offset (length c.args.into.now) (g.W.Wires.link c.args.wires.now) _ _ _ c.exchange.new.reply c.args.into.now
+    _ _ c.read.result c.judge-judged.result c.in-Err.fault _ c.type_of.ensures.kind (search rules) c.if-is_err.ensures.negation c.exchange.ensures.told
+    c.judge-judged.ensures.judged c.in-Err.is c.read.ensures c.cut.ensures.link c.cut.ensures.plan

@@ -1,0 +1,232 @@
+-- The emulator: what each whole control message does to it. (Own definitions; the messages are after swtpm's manual.)
+use Rattle.std.specs.Prelude.{◌≡◌, ◌-◌, ℕ, Bool, true, false, not, ◌&&◌, ◌==◌, nat_lt, if◌then◌else◌, List, [], ◌∷◌, ◌++◌, length, min, max, Option, Some, None, option_map, ◌⊎◌}
+use Rattle.vt_base.specs.declared.words.Kind.{Kind}
+use Rattle.vt_base.specs.declared.words.Kind.TheVariants.{Permanent, Volatile, Saved}
+use Rattle.vt_base.specs.declared.words.Malformed.{Malformed}
+use Rattle.tpm_frame.specs.declared.TheConstants.{FAILURE, CANCELED}
+use Rattle.tpm_frame.specs.Frame.{short}
+use Rattle.tpm_core.specs.declared.parts.TpmParts.{TpmParts}
+use Rattle.tpm_core.specs.Answers.{powered_on, values_after, answer}
+use Rattle.tpm_core.specs.Answers.Entry.{Executed}
+use Rattle.state_blobs.specs.Texts.{text_of, slice}
+use Rattle.state_blobs.specs.Refusals.{IsRefused}
+use Rattle.state_blobs.specs.declared.words.BlobFault.{BlobFault}
+use Rattle.state_blobs.specs.Assembly.{IsAssembled, IsFault}
+use Rattle.ctrl_codec.specs.declared.request.Request.{Request}
+use Rattle.ctrl_codec.specs.declared.request.Request.TheVariants.{GetCapability, Init, Shutdown, GetEstablished, SetLocality, CancelCommand, StoreVolatile, ResetEstablished, GetStateBlob, SetStateBlob, Stop, GetConfig, SetBufferSize}
+use Rattle.ctrl_codec.specs.declared.request.RequestFault.{RequestFault}
+use Rattle.ctrl_codec.specs.declared.request.RequestFault.TheVariants.{Code, Length}
+use Rattle.ctrl_codec.specs.declared.reply.Reply.{Reply}
+use Rattle.ctrl_codec.specs.declared.reply.Reply.TheVariants as reply
+use Rattle.ctrl_client.specs.declared.profile.TheConstants.{SUCCESS, BAD_PARAMETER, BAD_ORDINAL, CAPABILITIES, DELETE_VOLATILE, PERMANENT_BLOB, VOLATILE_BLOB, SAVED_BLOB, LEAST_BUFFER, GREATEST_BUFFER}
+
+-- a command that is held, and whether a cancel came since
+pub record Held : Type 0 where
+  pub command : List ℕ
+  pub cancelled : Bool
+
+-- the bytes of each blob that came so far
+pub record Gathers : Type 0 where
+  pub permanent : List ℕ
+  pub volatile : List ℕ
+  pub saved : List ℕ
+
+-- An emulator: its TPM if it has one, whether that is on, whether its volatile state was stored, the blobs that are
+-- gathered for another TPM, how many bytes of a blob one reply has at most, the size of its buffer, the command in hand,
+-- and whether its control channel is closed.
+pub record Desk : Type 0 where
+  pub tpm : Option TpmParts
+  pub on : Bool
+  pub stored : Bool
+  pub gathers : Gathers
+  pub piece : ℕ
+  pub buffer : ℕ
+  pub held : Option Held
+  pub closed : Bool
+
+-- nothing of any blob
+abbrev pub no_gathers : Gathers
+no_gathers = record { permanent = []; volatile = []; saved = [] }
+
+-- the bytes of one blob
+abbrev pub gather_of : Kind → Gathers → List ℕ
+gather_of Permanent g = g.permanent
+gather_of Volatile g = g.volatile
+gather_of Saved g = g.saved
+
+abbrev pub with_gather : Kind → List ℕ → Gathers → Gathers
+with_gather Permanent bytes g = record g { permanent = bytes }
+with_gather Volatile bytes g = record g { volatile = bytes }
+with_gather Saved bytes g = record g { saved = bytes }
+
+-- the kind of blob of a type, if there is one
+abbrev pub kind_of : ℕ → Option Kind
+kind_of type =
+    if type == PERMANENT_BLOB then Some Permanent
+    else (if type == VOLATILE_BLOB then Some Volatile
+    else (if type == SAVED_BLOB then Some Saved
+    else None))
+
+-- the type of a kind
+abbrev pub type_of : Kind → ℕ
+type_of Permanent = PERMANENT_BLOB
+type_of Volatile = VOLATILE_BLOB
+type_of Saved = SAVED_BLOB
+
+-- the emulator after a message, and the reply with its data
+pub record Turn : Type 0 where
+  pub desk : Desk
+  pub reply : Reply
+  pub payload : List ℕ
+
+-- a reply without data
+abbrev pub replied : Reply → Desk → Turn
+replied r d = record { desk = d; reply = r; payload = [] }
+
+-- a result alone
+abbrev pub resulted : ℕ → Desk → Turn
+resulted result d = replied (reply.Result result) d
+
+-- ---- INIT
+
+-- no element
+abbrev pub is_nil : List ℕ → Bool
+is_nil [] = true
+is_nil (x ∷ xs) = false
+
+-- switched on with this TPM
+abbrev pub switched_on : TpmParts → Desk → Desk
+switched_on t d = record d { tpm = Some t; on = true; stored = false; gathers = no_gathers }
+
+-- with nothing gathered, the TPM that is there is powered on anew, unless its volatile state was stored and is kept
+abbrev pub started_here : ℕ → Option TpmParts → Desk → Turn
+started_here flags None d = resulted BAD_ORDINAL d
+started_here flags (Some t) d = resulted SUCCESS (switched_on (if d.stored && flags == 0 then t else powered_on t) d)
+
+-- the volatile blob that counts
+abbrev pub volatile_taken : ℕ → Gathers → List ℕ
+volatile_taken flags g = if flags == DELETE_VOLATILE then [] else g.volatile
+
+-- a TPM with no volatile state is powered on
+abbrev pub started_with : List ℕ → TpmParts → TpmParts
+started_with [] t = powered_on t
+started_with (b ∷ bytes) t = t
+
+-- the TPM is assembled from the blobs that were gathered, or they are refused
+abbrev pub Assembled : List ℕ → Desk → Turn → Type 0
+Assembled volatile d turn =
+    ((t : TpmParts) × IsAssembled d.gathers.permanent volatile d.gathers.saved t × (turn ≡ resulted SUCCESS (switched_on (started_with volatile t) d)))
+    ⊎ ((fault : BlobFault) × IsFault d.gathers.permanent volatile d.gathers.saved fault × (turn ≡ resulted BAD_PARAMETER d))
+
+-- whether no byte of a blob was gathered
+abbrev pub is_nothing : Gathers → Bool
+is_nothing g = is_nil g.permanent && is_nil g.volatile && is_nil g.saved
+
+-- by whether nothing is gathered
+abbrev pub StartsBy : Bool → ℕ → Desk → Turn → Type 0
+StartsBy true flags d turn = turn ≡ started_here flags d.tpm d
+StartsBy false flags d turn = Assembled (volatile_taken flags d.gathers) d turn
+
+-- by whether a bit of the flags is set that says nothing
+abbrev pub InitsBy : Bool → ℕ → Desk → Turn → Type 0
+InitsBy true flags d turn = turn ≡ resulted BAD_PARAMETER d
+InitsBy false flags d turn = StartsBy (is_nothing d.gathers) flags d turn
+
+-- ---- blobs
+
+-- a blob's answer with no data
+abbrev pub no_blob : ℕ → Desk → Turn
+no_blob result d = replied (reply.Blob result 0 0 0) d
+
+-- a piece of a blob, as long as the emulator gives one
+abbrev pub piece_of : List ℕ → ℕ → Desk → Turn
+piece_of text offset d =
+    let size = min d.piece (length text - offset) in
+    record { desk = d; reply = reply.Blob SUCCESS 0 (length text) size; payload = slice text offset size }
+
+abbrev pub blob_given : Option Kind → ℕ → Option TpmParts → Desk → Turn
+blob_given None offset tpm d = no_blob BAD_PARAMETER d
+blob_given (Some kind) offset None d = no_blob BAD_ORDINAL d
+blob_given (Some kind) offset (Some t) d =
+    if nat_lt (length (text_of kind t)) offset then no_blob BAD_PARAMETER d else piece_of (text_of kind t) offset d
+
+-- a piece is added to what was gathered; one that no blob goes on with is refused, and changes nothing
+abbrev pub TakesPiece : Option Kind → List ℕ → Desk → Turn → Type 0
+TakesPiece None bytes d turn = turn ≡ resulted BAD_PARAMETER d
+TakesPiece (Some kind) [] d turn = turn ≡ resulted SUCCESS d
+TakesPiece (Some kind) (b ∷ bytes) d turn =
+    let all = gather_of kind d.gathers ++ b ∷ bytes in
+    (((fault : Malformed) → IsRefused kind fault all → ⊥) × (turn ≡ resulted SUCCESS (record d { gathers = with_gather kind all d.gathers })))
+    ⊎ ((fault : Malformed) × IsRefused kind fault all × (turn ≡ resulted BAD_PARAMETER d))
+
+-- by whether the TPM is on, and whether the flags are 0
+abbrev pub BlobTaken : Bool → Bool → ℕ → List ℕ → Desk → Turn → Type 0
+BlobTaken true plain type bytes d turn = turn ≡ resulted BAD_ORDINAL d
+BlobTaken false false type bytes d turn = turn ≡ resulted BAD_PARAMETER d
+BlobTaken false true type bytes d turn = TakesPiece (kind_of type) bytes d turn
+
+-- ---- the other messages
+
+-- a cancel came for the command that is held
+abbrev pub marked : Held → Held
+marked h = record h { cancelled = true }
+
+-- switched off; the TPM stays
+abbrev pub switched_off : Desk → Desk
+switched_off d = record d { on = false; gathers = no_gathers }
+
+-- the size of the buffer that was asked for, brought into its range; 0 asks for it
+abbrev pub buffer_for : ℕ → ℕ → ℕ
+buffer_for size now = if size == 0 then now else min (max size LEAST_BUFFER) GREATEST_BUFFER
+
+abbrev pub with_buffer : ℕ → Desk → Turn
+with_buffer size d = replied (reply.Buffer SUCCESS size LEAST_BUFFER GREATEST_BUFFER) (record d { buffer = size })
+
+-- what a whole request with its data does to an emulator whose control channel is open, and the reply
+abbrev pub Obeys : Request → List ℕ → Desk → Turn → Type 0
+Obeys GetCapability bytes d turn = turn ≡ replied (reply.Capability CAPABILITIES) d
+Obeys (Init flags) bytes d turn = InitsBy (nat_lt DELETE_VOLATILE flags) flags d turn
+Obeys Shutdown bytes d turn = turn ≡ resulted SUCCESS (record (switched_off d) { closed = true })
+Obeys GetEstablished bytes d turn = turn ≡ replied (reply.Established SUCCESS 0) d
+Obeys (SetLocality locality) bytes d turn = turn ≡ resulted (if locality == 0 then SUCCESS else BAD_PARAMETER) d
+Obeys CancelCommand bytes d turn = turn ≡ resulted SUCCESS (record d { held = option_map marked d.held })
+Obeys StoreVolatile bytes d turn = turn ≡ (if d.on then resulted SUCCESS (record d { stored = true }) else resulted BAD_ORDINAL d)
+Obeys (ResetEstablished locality) bytes d turn = turn ≡ resulted SUCCESS d
+Obeys (GetStateBlob flags type offset) bytes d turn = turn ≡ (if flags == 0 then blob_given (kind_of type) offset d.tpm d else no_blob BAD_PARAMETER d)
+Obeys (SetStateBlob flags type size) bytes d turn = BlobTaken d.on (flags == 0) type bytes d turn
+Obeys Stop bytes d turn = turn ≡ resulted SUCCESS (switched_off d)
+Obeys GetConfig bytes d turn = turn ≡ replied (reply.Config SUCCESS 0) d
+Obeys (SetBufferSize size) bytes d turn = turn ≡ with_buffer (buffer_for size d.buffer) d
+
+-- a code outside the profile, and a blob's length above the limit, close the channel
+abbrev pub fault_result : RequestFault → ℕ
+fault_result (Code code) = BAD_ORDINAL
+fault_result (Length size) = BAD_PARAMETER
+
+abbrev pub closed_for : RequestFault → Desk → Turn
+closed_for fault d = resulted (fault_result fault) (record d { closed = true })
+
+-- ---- commands
+
+-- a command that is whole is held
+abbrev pub holding : List ℕ → Desk → Desk
+holding command d = record d { held = Some (record { command = command; cancelled = false }) }
+
+-- the response of the TPM that is on
+abbrev pub response_of : Option TpmParts → List ℕ → List ℕ
+response_of None command = short FAILURE
+response_of (Some t) command = answer t [] command
+
+-- the TPM once it executed a command
+abbrev pub executed_by : List ℕ → TpmParts → TpmParts
+executed_by command t = values_after t (Executed command ∷ [])
+
+-- the response to the command that is held
+abbrev pub response_to : Held → Desk → List ℕ
+response_to h d = if d.on then (if h.cancelled then short CANCELED else response_of d.tpm h.command) else short FAILURE
+
+-- the emulator once it answered the command that it held: it is executed where the TPM is on and no cancel came
+abbrev pub ran : Held → Desk → Desk
+ran h d =
+    if d.on && not h.cancelled then record d { tpm = option_map (executed_by h.command) d.tpm; stored = false; held = None }
+    else record d { held = None }

@@ -1,0 +1,6 @@
+pub mod Desk
+pub mod Plan
+pub mod Link
+pub mod Whole
+pub mod Exchange
+pub mod Pieces

@@ -1,0 +1,118 @@
+-- A piece of a blob is asked for, or another size of the buffer, over a link that is quiet. (Own definitions.)
+use Rattle.std.specs.Prelude.{◌≡◌, ◌+◌, ◌-◌, ◌<◌, ◌≤◌, ◌^◌, ℕ, Bool, true, false, not, ◌==◌, ◌||◌, ◌&&◌, nat_lt, min, if◌then◌else◌, ◌⊎◌, List, [], ◌++◌, length, take, drop, Option, Some, None, IfSome, Result, Ok, Err, IfOk}
+use Rattle.vt_base.specs.declared.words.Kind.{Kind}
+use Rattle.tpm_core.specs.declared.parts.TpmParts.{TpmParts}
+use Rattle.state_blobs.specs.Texts.{text_of, slice}
+use Rattle.state_blobs.specs.declared.words.Piece.{Piece}
+use Rattle.ctrl_client.specs.declared.fault.ClientFault.{ClientFault}
+use Rattle.ctrl_client.specs.declared.fault.ClientFault.TheVariants.{Link as LinkFault, Result as BadResult, Reply as BadReply}
+use Rattle.ctrl_client.specs.declared.profile.TheConstants.{SUCCESS, BAD_PARAMETER, BAD_ORDINAL, FLAGS_PLACE, TOTAL_PLACE, LENGTH_PLACE, GREATEST_BUFFER}
+use Rattle.ctrl_client.specs.Desk.{Desk, buffer_for}
+use Rattle.vt_base.specs.declared.words.Chan.TheVariants.{Ctrl}
+use Rattle.ctrl_client.specs.Link.{Link, at_hand, received}
+use Rattle.ctrl_client.specs.Plan.{fails_within, plan_after}
+use Rattle.ctrl_client.specs.Exchange.{IsQuiet}
+
+-- ---- a piece of a blob
+
+-- the fixed fields of the reply
+pub record BlobFields : Type 0 where
+  pub result : ℕ
+  pub flags : ℕ
+  pub total : ℕ
+  pub size : ℕ
+
+-- a length that can't stand: above what is left of the blob, above the room, or none of what is left
+abbrev pub is_misfit : ℕ → ℕ → ℕ → Bool
+is_misfit size left room = nat_lt left size || nat_lt room size || (size == 0 && nat_lt 0 left)
+
+-- the piece that the fields tell, or the first of them that can't stand
+abbrev pub judged_fields : BlobFields → ℕ → ℕ → Result Piece ClientFault
+judged_fields f offset room =
+    if not (f.result == SUCCESS) then Err (BadResult f.result)
+    else (if not (f.flags == 0) then Err (BadReply FLAGS_PLACE)
+    else (if nat_lt f.total offset then Err (BadReply TOTAL_PLACE)
+    else (if is_misfit f.size (f.total - offset) room then Err (BadReply LENGTH_PLACE)
+    else Ok (record { total = f.total; length = f.size }))))
+
+-- a piece that begins at this place of its blob, and has room
+pub record IsPiece (offset room : ℕ) (p : Piece) : Type 0 where
+  pub within : offset + p.length ≤ p.total
+  pub fits : p.length ≤ room
+  pub some : offset < p.total → 0 < p.length
+
+-- a field of the reply begins at this place
+abbrev pub IsPlace : ℕ → Type 0
+IsPlace place = (place ≡ FLAGS_PLACE) ⊎ ((place ≡ TOTAL_PLACE) ⊎ (place ≡ LENGTH_PLACE))
+
+-- what the emulator gives of a TPM's blob
+abbrev pub piece_at : List ℕ → ℕ → ℕ → Result Piece ClientFault
+piece_at text offset most =
+    if nat_lt (length text) offset then Err (BadResult BAD_PARAMETER)
+    else Ok (record { total = length text; length = min most (length text - offset) })
+
+abbrev pub piece_of_tpm : Kind → ℕ → ℕ → Option TpmParts → Result Piece ClientFault
+piece_of_tpm kind offset most None = Err (BadResult BAD_ORDINAL)
+piece_of_tpm kind offset most (Some t) = piece_at (text_of kind t) offset most
+
+-- what it gives, and the bytes themselves
+abbrev pub piece_given : Kind → ℕ → Desk → Result Piece ClientFault
+piece_given kind offset d = piece_of_tpm kind offset d.piece d.tpm
+
+abbrev pub bytes_at : Result Piece ClientFault → List ℕ → ℕ → List ℕ
+bytes_at (Ok p) text offset = slice text offset p.length
+bytes_at (Err fault) text offset = []
+
+abbrev pub text_of_tpm : Kind → Option TpmParts → List ℕ
+text_of_tpm kind None = []
+text_of_tpm kind (Some t) = text_of kind t
+
+abbrev pub bytes_given : Kind → ℕ → Desk → List ℕ
+bytes_given kind offset d = bytes_at (piece_given kind offset d) (text_of_tpm kind d.tpm) offset
+
+-- a call for the request, one for the fixed fields, and one for data, if there is any
+abbrev pub calls_for : Result Piece ClientFault → ℕ
+calls_for (Ok p) = if nat_lt 0 p.length then 3 else 2
+calls_for (Err fault) = 2
+
+-- a link that is quiet, to an emulator whose pieces have room, and whose blob's length fits its field
+pub record HasRoom (kind : Kind) (most : ℕ) (l : Link) : Type 0 where
+  pub quiet : IsQuiet l
+  pub total : IfSome l.desk.tpm (λ t. length (text_of kind t) < 2 ^ 32)
+  pub some : 0 < l.desk.piece
+  pub fits : l.desk.piece ≤ most
+
+-- One piece is asked for, and its bytes stand in front. The emulator and the link stay as they were.
+pub record Fetches {P : Type 0} (fails : P → Bool) (later : P → P) (kind : Kind) (offset : ℕ) (l : Link) (plan : P) (answer : Result Piece ClientFault) (old new : List ℕ) (after : Option Link) (plan_now : P) : Type 0 where
+  pub plan_is : plan_now ≡ plan_after fails later (calls_for (piece_given kind offset l.desk)) plan
+  pub link : after ≡ Some l
+  pub answer_is : answer ≡ (if fails_within fails later (calls_for (piece_given kind offset l.desk)) plan then Err LinkFault else piece_given kind offset l.desk)
+  pub bytes : fails_within fails later (calls_for (piece_given kind offset l.desk)) plan ≡ false
+      → new ≡ bytes_given kind offset l.desk ++ drop (length (bytes_given kind offset l.desk)) old
+
+-- by whether there is data: it was received over this link, or the call failed
+abbrev pub TakesData : {P : Type 0} → Bool → (P → Bool) → (P → P) → Piece → Link → P → Result Piece ClientFault → List ℕ → List ℕ → Option Link → P → Type 0
+TakesData false fails later p m plan answer old new after plan_now = (answer ≡ Ok p) × (new ≡ old) × (after ≡ Some m) × (plan_now ≡ plan)
+TakesData true fails later p m plan answer old new after plan_now =
+    (answer ≡ (if fails plan then Err LinkFault else Ok p))
+    × (fails plan ≡ false → new ≡ take p.length (at_hand Ctrl m) ++ drop p.length old)
+    × (after ≡ Some (received (not (fails plan)) Ctrl p.length m)) × (plan_now ≡ later plan)
+
+-- ---- the size of the buffer
+
+-- by whether the send failed, and whether a call did
+abbrev pub SizedBy : Bool → Bool → ℕ → Link → Result ℕ ClientFault → Option Link → Type 0
+SizedBy true lost size l answer after = (answer ≡ Err LinkFault) × (after ≡ Some l)
+SizedBy false lost size l answer after =
+    (after ≡ Some (record l { desk = record l.desk { buffer = buffer_for size l.desk.buffer } }))
+    × (answer ≡ (if lost then Err LinkFault else Ok (buffer_for size l.desk.buffer)))
+
+-- the size is asked for, and what the emulator took is answered
+pub record Sizes {P : Type 0} (fails : P → Bool) (later : P → P) (size : ℕ) (l : Link) (plan : P) (answer : Result ℕ ClientFault) (after : Option Link) (plan_now : P) : Type 0 where
+  pub plan_is : plan_now ≡ plan_after fails later 2 plan
+  pub link : SizedBy (fails_within fails later 1 plan) (fails_within fails later 2 plan) size l answer after
+
+-- a link that is quiet, to an emulator whose buffer is no larger than the profile's
+pub record IsSized (l : Link) : Type 0 where
+  pub quiet : IsQuiet l
+  pub most : l.desk.buffer ≤ GREATEST_BUFFER

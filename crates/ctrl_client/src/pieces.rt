@@ -1,0 +1,162 @@
+//! A piece of a blob, and the size of the buffer.
+ghost use Rattle.std.specs.Prelude.{◌≡◌, ◌≢◌, ◌≤◌, ℕ, length, nat_lt, Err, IfOk, IfErr, IfSome};
+ghost use Rattle.vt_base.specs.Faults.{Rose};
+ghost use Rattle.tpm_frame.specs.Frame.{number_at};
+ghost use Rattle.std.specs.Int.{w32};
+ghost use Rattle.ctrl_client.specs.Link.{empty_lane, at_hand};
+ghost use Rattle.ctrl_client.specs.Pieces.{judged_fields, IsPiece, IsPlace, HasRoom, Fetches, TakesData, IsSized, Sizes};
+
+use crate::client::{exchange, type_of};
+use crate::fault::ClientFault;
+use crate::profile::{FIXED_LENGTH, FLAGS_PLACE, LENGTH_PLACE, SIZE_PLACE, SUCCESS, TOTAL_PLACE};
+use crate::whole::receive_whole;
+use crate::wires::Wires;
+use ctrl_codec::Request;
+use state_blobs::Piece;
+use std::marker::Model;
+use tpm_frame::u32_at;
+use vt_base::{Chan, Kind};
+
+// The fixed fields of a reply to GET_STATEBLOB.
+#[derive(Drop)]
+struct Fields {
+    result: u32,
+    flags: u32,
+    total: u32,
+    length: u32,
+}
+
+impl Model for Fields {
+    ghost use Rattle.ctrl_client.specs.Pieces.{BlobFields};
+
+    ghost Value = { BlobFields };
+
+    ghost view = { λ f. record { result = f.result; flags = f.flags; total = f.total; size = f.length } };
+}
+
+impl Fields {
+    fn read(bytes: &[u8; FIXED_LENGTH]) -> Fields
+        ensures { result ≡ record {
+          result = number_at w32 0 bytes.now;
+          flags = number_at w32 4 bytes.now;
+          total = number_at w32 8 bytes.now;
+          size = number_at w32 12 bytes.now;
+        } }
+    {
+        Fields {
+            result: u32_at(bytes, 0),
+            flags: u32_at(bytes, FLAGS_PLACE as usize),
+            total: u32_at(bytes, TOTAL_PLACE as usize),
+            length: u32_at(bytes, LENGTH_PLACE as usize),
+        }
+    }
+
+    // The piece that they tell, or why they can't stand.
+    fn judge(&self, offset: u32, room: usize) -> Result<Piece, ClientFault>
+        ensures judged { result ≡ judged_fields self.now offset room }
+        ensures piece { IfOk result (IsPiece offset room) }
+    {
+        if self.result != SUCCESS {
+            return Err(ClientFault::Result(self.result));
+        }
+        if self.flags != 0 {
+            return Err(ClientFault::Reply(FLAGS_PLACE));
+        }
+        if self.total < offset {
+            return Err(ClientFault::Reply(TOTAL_PLACE));
+        }
+        let left = self.total - offset;
+        if self.length > left || self.length as usize > room || (self.length == 0 && left > 0) {
+            return Err(ClientFault::Reply(LENGTH_PLACE));
+        }
+        Ok(Piece {
+            total: self.total,
+            length: self.length,
+        })
+    }
+}
+
+/// Asks for a piece of a blob, from this place on, and puts its bytes in front of `into`. The emulator says how long a piece
+/// is; one that is longer than `into` is answered as a reply that can't stand.
+pub fn get_piece<W: Wires>(
+    wires: &mut W,
+    kind: Kind,
+    offset: u32,
+    into: &mut [u8],
+) -> Result<Piece, ClientFault>
+    // Over wires that tell their link, while no byte waits on the control channel and it is open, and where a piece of the
+    // emulator has room.
+    ensures told { IfSome (W.link wires.old) (λ l. HasRoom kind (length into.old) l
+        → Fetches W.fails W.later kind offset l (W.plan wires.old) result into.old into.new (W.link wires.new) (W.plan wires.new)) }
+
+    // Over any wires.
+    ensures piece { IfOk result (IsPiece offset (length into.old)) }
+    ensures link { result ≡ Err ClientFault.Link → Rose (W.faults wires.old) (W.faults wires.new) }
+    ensures refused { (number : ℕ) → result ≡ Err (ClientFault.Result number) → number ≢ 0 }
+    ensures place { (place : ℕ) → result ≡ Err (ClientFault.Reply place) → IsPlace place }
+
+    // After a reply that can't stand nothing waits on the channel.
+    ensures cut { (place : ℕ) → result ≡ Err (ClientFault.Reply place) → IfSome (W.link wires.new) (λ l. l.control ≡ empty_lane) }
+{
+    let request = Request::GetStateBlob {
+        flags: 0,
+        kind: type_of(kind),
+        offset,
+    };
+    let mut fixed = [0; FIXED_LENGTH];
+    if exchange(wires, &request, &[], &mut fixed).is_err() {
+        return Err(ClientFault::Link);
+    }
+    let judged = Fields::read(&fixed).judge(offset, into.len());
+    match judged {
+        Ok(piece) => receive_data(wires, piece, into),
+        Err(fault) => {
+            wires.cut(Chan::Ctrl);
+            Err(fault)
+        }
+    }
+}
+
+// Receives the data of a piece into the front of `into`, if there is any.
+fn receive_data<W: Wires>(
+    wires: &mut W,
+    piece: Piece,
+    into: &mut [u8],
+) -> Result<Piece, ClientFault>
+    requires room { piece.length ≤ length into.old }
+    ensures told { IfSome (W.link wires.old) (λ m. piece.length ≤ length (at_hand Chan.Ctrl m)
+        → TakesData (nat_lt 0 piece.length) W.fails W.later piece m (W.plan wires.old) result into.old into.new (W.link wires.new) (W.plan wires.new)) }
+    ensures piece { IfOk result (λ p. p ≡ piece) }
+    ensures fault { IfErr result (λ fault. fault ≡ ClientFault.Link) }
+    ensures link { result ≡ Err ClientFault.Link → Rose (W.faults wires.old) (W.faults wires.new) }
+    ensures later { W.faults wires.old ≤ W.faults wires.new }
+{
+    if piece.length == 0 {
+        return Ok(piece);
+    }
+    let front = &mut into[..piece.length as usize];
+    match receive_whole(wires, Chan::Ctrl, front) {
+        Ok(()) => Ok(piece),
+        Err(_) => Err(ClientFault::Link),
+    }
+}
+
+/// Asks for another size of the buffer of commands and responses, and gives the size that the emulator took; 0 asks for the
+/// size that it has.
+pub fn set_buffer<W: Wires>(wires: &mut W, size: u32) -> Result<u32, ClientFault>
+    // Over wires that tell their link, while no byte waits on the control channel and it is open.
+    ensures told { IfSome (W.link wires.old) (λ l. IsSized l
+        → Sizes W.fails W.later size l (W.plan wires.old) result (W.link wires.new) (W.plan wires.new)) }
+    ensures link { result ≡ Err ClientFault.Link → Rose (W.faults wires.old) (W.faults wires.new) }
+    ensures refused { (number : ℕ) → result ≡ Err (ClientFault.Result number) → number ≢ 0 }
+    ensures no_reply { (place : ℕ) → result ≢ Err (ClientFault.Reply place) }
+{
+    let mut reply = [0; FIXED_LENGTH];
+    if exchange(wires, &Request::SetBufferSize { size }, &[], &mut reply).is_err() {
+        return Err(ClientFault::Link);
+    }
+    match u32_at(&reply, 0) {
+        SUCCESS => Ok(u32_at(&reply, SIZE_PLACE)),
+        result => Err(ClientFault::Result(result)),
+    }
+}

@@ -1,0 +1,35 @@
+//! A receive that is repeated for the rest.
+ghost use Rattle.std.specs.Prelude.{◌≡◌, ◌≤◌, ◌<◌, length, true, is_ok, IfSome, OnOk};
+ghost use Rattle.vt_base.specs.Faults.{HasCause};
+ghost use Rattle.ctrl_client.specs.Link.{at_hand};
+ghost use Rattle.ctrl_client.specs.Whole.{ReceivesWhole};
+
+use crate::wires::Wires;
+use vt_base::{Chan, Failed};
+
+/// Fills the slice with the next bytes.
+pub fn receive_whole<W: Wires>(wires: &mut W, chan: Chan, into: &mut [u8]) -> Result<(), Failed>
+    requires some { 0 < length into.old }
+
+    // Over wires that tell their link, where so many bytes are at hand, one receive gives them all.
+    ensures told { IfSome (W.link wires.old) (λ l. length into.old ≤ length (at_hand chan l)
+        → ReceivesWhole W.fails W.later chan l (W.plan wires.old) (length into.old) result into.new (W.link wires.new) (W.plan wires.new)) }
+    ensures cause { HasCause (W.faults wires.old) (W.faults wires.new) result }
+{
+    let count = wires.receive(chan, into)?;
+    receive_rest(wires, chan, &mut into[count..])
+}
+
+// Fills what is left, if anything is.
+fn receive_rest<W: Wires>(wires: &mut W, chan: Chan, into: &mut [u8]) -> Result<(), Failed>
+    ensures nothing { length into.old ≡ 0 → OnOk result (wires.new ≡ wires.old) }
+    ensures sure { length into.old ≡ 0 → is_ok result ≡ true }
+    ensures cause { HasCause (W.faults wires.old) (W.faults wires.new) result }
+{
+    let mut done = 0;
+    while done < into.len() {
+        let count = wires.receive(chan, &mut into[done..])?;
+        done += count;
+    }
+    Ok(())
+}

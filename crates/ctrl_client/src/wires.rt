@@ -1,0 +1,51 @@
+//! The link to one emulator.
+ghost use Rattle.std.specs.Prelude.{◌≡◌, ◌<◌, ◌&&◌, ℕ, Option, Bool, not, length, take, is_ok, option_map, IfOk, IfSome};
+ghost use Rattle.std.specs.Io.{ReadsAtMost};
+ghost use Rattle.vt_base.specs.Faults.{HasCause};
+ghost use Rattle.ctrl_client.specs.Desk.{is_nil};
+ghost use Rattle.ctrl_client.specs.Link.{Link, Goes, SentBy, received, cut, at_hand};
+
+use vt_base::{Chan, Failed};
+
+/// The link to one emulator: bytes of control messages and of commands go to it, and replies and responses come back.
+pub trait Wires {
+    ghost use Rattle.ctrl_client.specs.Link.{Link};
+
+    /// The emulator behind the wires and the bytes that wait on them, where they tell it.
+    ghost link: { Self → Option Link };
+
+    /// How many calls have failed.
+    ghost faults: { Self → ℕ };
+
+    /// Which of the calls to come are to fail. Nothing rests on it where the link isn't told.
+    ghost Plan: { Type 0 };
+
+    ghost plan: { Self → Plan };
+
+    ghost fails: { Plan → Bool };
+
+    ghost later: { Plan → Plan };
+
+    /// Sends bytes, all of them or none.
+    fn send(&mut self, chan: Chan, bytes: &[u8]) -> Result<(), Failed>
+        ensures link { Goes (SentBy (is_ok result) chan bytes.now) (link self.old) (link self.new) }
+        ensures fails { IfSome (link self.old) (λ _. is_ok result ≡ not (fails (plan self.old))) }
+        ensures plan { IfSome (link self.old) (λ _. plan self.new ≡ later (plan self.old)) }
+        ensures cause { HasCause (faults self.old) (faults self.new) result };
+
+    /// Gives the next bytes: at least one, unless the slice is empty.
+    fn receive(&mut self, chan: Chan, into: &mut [u8]) -> Result<usize, Failed>
+        ensures bound { ReadsAtMost result into.new }
+        ensures some { 0 < length into.old → IfOk result (λ n. 0 < n) }
+        ensures bytes { IfSome (link self.old) (λ l. IfOk result (λ n. take n into.new ≡ take (length into.old) (at_hand chan l))) }
+        ensures link { link self.new ≡ option_map (received (is_ok result) chan (length into.old)) (link self.old) }
+        ensures fails { IfSome (link self.old) (λ l. is_ok result ≡ (not (fails (plan self.old)) && not (is_nil (at_hand chan l)))) }
+        ensures plan { IfSome (link self.old) (λ _. plan self.new ≡ later (plan self.old)) }
+        ensures cause { HasCause (faults self.old) (faults self.new) result };
+
+    /// Forgets the bytes that wait on a channel.
+    fn cut(&mut self, chan: Chan)
+        ensures link { link self.new ≡ option_map (cut chan) (link self.old) }
+        ensures plan { IfSome (link self.old) (λ _. plan self.new ≡ plan self.old) }
+        ensures faults { faults self.new ≡ faults self.old };
+}
