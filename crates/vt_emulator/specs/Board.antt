@@ -1,0 +1,111 @@
+-- What stands behind the two channels, part by part. (Own definitions.)
+use Rattle.std.specs.Prelude.{◌≡◌, ℕ, Bool, true, false, if◌then◌else◌, List, [], ◌++◌, length, take, Option, Some, None, Result, Ok, Err, ◌==◌}
+use Rattle.vt_base.specs.declared.words.Kind.TheVariants.{Permanent, Volatile, Saved}
+use Rattle.vt_base.specs.Buffer.{followed_by_zeros}
+use Rattle.state_blobs.specs.declared.words.Piece.{Piece}
+use Rattle.state_blobs.specs.Gathering.{Gathering}
+use Rattle.ctrl_codec.specs.declared.request.Request.{Request}
+use Rattle.ctrl_codec.specs.declared.reply.Reply.TheVariants as reply
+use Rattle.ctrl_codec.specs.Replies.{reply_spelling}
+use Rattle.ctrl_client.specs.declared.profile.TheConstants.{SUCCESS, BAD_PARAMETER}
+use Rattle.ctrl_client.specs.Link.{command_in}
+use Rattle.ctrl_client.specs.Desk.{Desk, Held, Turn, Obeys, kind_of, blob_given, no_blob, response_to, ran}
+
+-- ---- the command in hand
+
+-- the part of a command that came so far, and the whole one that is held
+pub record InHand : Type 0 where
+  pub begun : List ℕ
+  pub held : Option Held
+
+-- by whether the bytes are a whole command
+abbrev pub in_hand : Bool → Bool → List ℕ → InHand
+in_hand false cancelled bytes = record { begun = bytes; held = None }
+in_hand true cancelled bytes = record { begun = []; held = Some (record { command = bytes; cancelled = cancelled }) }
+
+-- no command is whole: the bytes are kept
+pub record KeepsPart (bytes : List ℕ) (used : ℕ) (whole : Bool) (c d : InHand) : Type 0 where
+  pub state : d ≡ record c { begun = c.begun ++ bytes }
+  pub all_used : used ≡ length bytes
+  pub not_whole : whole ≡ false
+
+-- a command is whole with the last byte that was taken
+pub record KeepsWhole (command bytes : List ℕ) (used : ℕ) (whole : Bool) (c d : InHand) : Type 0 where
+  pub state : d ≡ in_hand true false command
+  pub taken : command ≡ c.begun ++ take used bytes
+  pub is_whole : whole ≡ true
+
+-- a command is held already
+pub record KeepsAll (used : ℕ) (whole : Bool) (c d : InHand) : Type 0 where
+  pub state : d ≡ c
+  pub none_used : used ≡ 0
+  pub is_whole : whole ≡ true
+
+-- bytes of a command came
+abbrev pub TakesBy : Option (List ℕ) → List ℕ → ℕ → Bool → InHand → InHand → Type 0
+TakesBy None bytes used whole c d = KeepsPart bytes used whole c d
+TakesBy (Some command) bytes used whole c d = KeepsWhole command bytes used whole c d
+
+abbrev pub Takes : Bool → List ℕ → ℕ → Bool → InHand → InHand → Type 0
+Takes true bytes used whole c d = KeepsAll used whole c d
+Takes false bytes used whole c d = TakesBy (command_in (c.begun ++ bytes)) bytes used whole c d
+
+-- ---- the blobs
+
+-- each gather is of its kind; the last is another volatile one, of which nothing is ever gathered
+pub record AreInPlace (permanent volatile saved none : Gathering) : Type 0 where
+  pub first : permanent.kind ≡ Permanent
+  pub second : volatile.kind ≡ Volatile
+  pub third : saved.kind ≡ Saved
+  pub fourth : none.kind ≡ Volatile
+  pub nothing : none.begun ≡ []
+
+-- the volatile blob that counts, by whether it is deleted
+abbrev pub counting : Bool → List ℕ → List ℕ
+counting deleted bytes = if deleted then [] else bytes
+
+-- ---- the board
+
+-- what whole messages see of it, and the part of a command that came so far
+pub record BoardState : Type 0 where
+  pub desk : Desk
+  pub command : List ℕ
+
+-- what GET_STATEBLOB comes to
+abbrev pub blob_turn : ℕ → ℕ → ℕ → Desk → Turn
+blob_turn flags type offset d = if flags == 0 then blob_given (kind_of type) offset d.tpm d else no_blob BAD_PARAMETER d
+
+-- the same by its parts: what stands in a buffer of a piece that there is, or a result
+abbrev pub turn_of : Result Piece ℕ → List ℕ → Desk → Turn
+turn_of (Ok p) into d = record { desk = d; reply = reply.Blob SUCCESS 0 p.total p.length; payload = take p.length into }
+turn_of (Err result) into d = no_blob result d
+
+-- A request was obeyed: one step of the emulator, and its reply.
+pub record Obeying (request : Request) (payload out : List ℕ) (b c : BoardState) : Type 0 where
+  pub turn : Turn
+  pub obeys : Obeys request payload b.desk turn
+  pub state : c ≡ record b { desk = turn.desk }
+  pub replies : out ≡ reply_spelling turn.reply turn.payload
+
+-- the command in hand, and a board with another one
+abbrev pub hand_of : BoardState → InHand
+hand_of b = record { begun = b.command; held = b.desk.held }
+
+abbrev pub with_hand : InHand → BoardState → BoardState
+with_hand hand b = record { desk = record b.desk { held = hand.held }; command = hand.begun }
+
+-- the command that was held is answered, once, and dropped
+pub record Answers (h : Held) (size : ℕ) (into : List ℕ) (b c : BoardState) : Type 0 where
+  pub state : c ≡ record b { desk = ran h b.desk }
+  pub size_is : size ≡ length (response_to h b.desk)
+  pub response : into ≡ followed_by_zeros (response_to h b.desk)
+
+-- none is held
+pub record RunsNothing (size : ℕ) (was into : List ℕ) (b c : BoardState) : Type 0 where
+  pub state : c ≡ b
+  pub size_is : size ≡ 0
+  pub kept : into ≡ was
+
+abbrev pub RunsHeld : Option Held → ℕ → List ℕ → List ℕ → BoardState → BoardState → Type 0
+RunsHeld None size was into b c = RunsNothing size was into b c
+RunsHeld (Some h) size was into b c = Answers h size into b c

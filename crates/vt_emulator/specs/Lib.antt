@@ -1,0 +1,3 @@
+pub mod Emulator
+pub mod Board
+pub mod Inside
