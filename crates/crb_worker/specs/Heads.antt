@@ -1,0 +1,24 @@
+-- The headers of responses, and the response to a command that was cancelled (TPM 2.0 Library, part 1, the header of
+-- commands and responses; the bounds of the size are our own).
+use Rattle.std.specs.Prelude.{◌==◌, Bool, ◌&&◌, ◌||◌, nat_le, ℕ, List}
+use Rattle.std.specs.Str.{bytes_eq}
+use Rattle.std.specs.Int.{w16}
+use Rattle.tpm_frame.specs.declared.TheConstants.{NO_SESSIONS, SESSIONS, RSP_COMMAND, CANCELED, HEADER_SIZE, LARGEST_FRAME}
+use Rattle.tpm_frame.specs.Frame.{number_at, short}
+use Rattle.tpm_frame.specs.Sizes.{named_size}
+
+-- the tag of a response
+abbrev pub is_response_tag : ℕ → Bool
+is_response_tag tag = tag == NO_SESSIONS || tag == SESSIONS || tag == RSP_COMMAND
+
+-- a response can have so many bytes
+abbrev pub is_response_size : ℕ → Bool
+is_response_size size = nat_le HEADER_SIZE size && nat_le size LARGEST_FRAME
+
+-- these ten bytes are the header of a response
+abbrev pub is_head : List ℕ → Bool
+is_head head = is_response_tag (number_at w16 0 head) && is_response_size (named_size head)
+
+-- the response is that to a command that was cancelled
+abbrev pub is_cancelled : List ℕ → Bool
+is_cancelled response = bytes_eq response (short CANCELED)

@@ -1,0 +1,5 @@
+pub mod Heads
+pub mod Progress
+pub mod Seen
+pub mod Works
+pub mod Runs

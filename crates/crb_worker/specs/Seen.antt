@@ -1,0 +1,50 @@
+-- What is seen of wires, and what the calls of one step do to it. (Own definitions.)
+use Rattle.std.specs.Prelude.{◌≡◌, ◌≤◌, ℕ, Bool, not, List, length, take, Option, Some, IfSome}
+use Rattle.std.specs.Bool.{OnFalse}
+use Rattle.vt_base.specs.Faults.{Rose}
+use Rattle.vt_base.specs.declared.words.Chan.TheVariants.{Data}
+use Rattle.ctrl_client.specs.Link.{Link, Goes, SentBy, received, at_hand}
+
+-- Wires: their link, where they tell it; the plan of their calls, whether the next is to fail by it, and the plan after
+-- that one; and how many calls have failed.
+pub record Seen (Plan : Type 0) : Type 0 where
+  pub link : Option Link
+  pub plan : Plan
+  pub fails : Bool
+  pub later : Plan
+  pub faults : ℕ
+
+abbrev pub wires_seen : {Plan : Type 0} → (Plan → Bool) → (Plan → Plan) → Option Link → Plan → ℕ → Seen Plan
+wires_seen fails later link plan faults = record { link = link; plan = plan; fails = fails plan; later = later plan; faults = faults }
+
+-- the count of faults never falls, and a call that failed raised it
+pub record Counts {Plan : Type 0} (ok : Bool) (w v : Seen Plan) : Type 0 where
+  pub later : w.faults ≤ v.faults
+  pub rose : OnFalse ok (Rose w.faults v.faults)
+
+-- one send of a command, by whether it succeeded
+pub record Sends {Plan : Type 0} (ok : Bool) (command : List ℕ) (w v : Seen Plan) : Type 0 where
+  pub counts : Counts ok w v
+  pub link : Goes (SentBy ok Data command) w.link v.link
+  pub answers : IfSome w.link (λ _. ok ≡ not w.fails)
+  pub plan : IfSome w.link (λ _. v.plan ≡ w.later)
+
+-- one receive of so many bytes of a response, over a link that is told
+pub record ReceivesOnce {Plan : Type 0} (ok : Bool) (count : ℕ) (l : Link) (w v : Seen Plan) : Type 0 where
+  pub link : v.link ≡ Some (received ok Data count l)
+  pub answers : ok ≡ not w.fails
+  pub plan : v.plan ≡ w.later
+
+-- where the link is told and so many bytes of a response are at hand
+abbrev pub WithAtHand : {Plan : Type 0} → ℕ → Seen Plan → (Link → Type 0) → Type 0
+WithAtHand count w fact = IfSome w.link (λ l. count ≤ length (at_hand Data l) → fact l)
+
+-- So many bytes of a response were received, or a receive failed. Those at hand are received at once.
+pub record Receives {Plan : Type 0} (ok : Bool) (count : ℕ) (w v : Seen Plan) : Type 0 where
+  pub counts : Counts ok w v
+  pub told : WithAtHand count w (λ l. ReceivesOnce ok count l w v)
+
+-- these are the next bytes of a response
+pub record AreNext {Plan : Type 0} (bytes : List ℕ) (count : ℕ) (w : Seen Plan) : Type 0 where
+  pub size : length bytes ≡ count
+  pub told : WithAtHand count w (λ l. bytes ≡ take count (at_hand Data l))

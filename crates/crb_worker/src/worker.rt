@@ -1,0 +1,209 @@
+//! The worker.
+ghost use Rattle.std.specs.Prelude.{◌≡◌, Some, None, true, false};
+ghost use Rattle.tpm_frame.specs.Frame.{short};
+ghost use Rattle.crb_port.specs.Calls.{Posts};
+ghost use Rattle.crb_worker.specs.Heads.{is_head as IsHead};
+ghost use Rattle.crb_worker.specs.Progress.{number_in_hand, holds_head, calls_wires};
+ghost use Rattle.crb_worker.specs.Seen.{wires_seen};
+ghost use Rattle.crb_worker.specs.Works.{Works, WithoutJob, WithClaimed, WithSent, WithRun, answered, is_longer, lost};
+
+use crate::progress::{Progress, Step};
+use crate::receiving::{hold_response, is_head, receive_head};
+use crb_port::{Answer, Job, Outcome, WorkPort};
+use ctrl_client::Wires;
+use std::marker::Model;
+use std::mem;
+use tpm_frame::{CANCELED, HEADER_SIZE, first_frame, write_short};
+use vt_base::Chan;
+
+/// A worker; seen as how far it is with its job.
+#[derive(Drop)]
+pub struct Worker {
+    progress: Progress,
+}
+
+impl Model for Worker {
+    ghost use Rattle.std.specs.Prelude.{◌≡◌, true};
+    ghost use Rattle.crb_worker.specs.Progress.{holds_head};
+    ghost use Rattle.crb_worker.specs.declared.progress.Progress.{Progress};
+
+    ghost Value = { Progress };
+
+    ghost view = { λ w. w.progress };
+
+    ghost invariant = { λ w. holds_head w.progress ≡ true };
+}
+
+impl Worker {
+    /// A worker without a job.
+    pub fn new() -> Worker
+        ensures free { result ≡ Progress.Free }
+    {
+        Worker {
+            progress: Progress::Free,
+        }
+    }
+
+    /// Takes the job in hand one step further, or claims one. A job in hand needs the end of the port that claimed it and
+    /// hasn't posted its answer. No memory is taken: the job's buffer goes back with the answer.
+    pub fn step<P: WorkPort, W: Wires>(&mut self, port: &mut P, wires: &mut W) -> Step
+        requires in_hand { (P.known port.old).in_hand ≡ number_in_hand self.old }
+        ensures works { let before = wires_seen W.fails W.later (W.link wires.old) (W.plan wires.old) (W.faults wires.old) in
+            let after = wires_seen W.fails W.later (W.link wires.new) (W.plan wires.new) (W.faults wires.new) in
+            Works self.old (P.known port.old) before result self.new (P.known port.new) after }
+
+        // Where there is nothing to send or to receive, the wires aren't touched.
+        ensures untouched { calls_wires self.old ≡ false → wires.new ≡ wires.old }
+
+        // What the next step needs.
+        ensures hand { (P.known port.new).in_hand ≡ number_in_hand self.new }
+        ensures head { holds_head self.new ≡ true }
+        ensures rest { P.rest port.new ≡ P.rest port.old }
+    {
+        match mem::replace(&mut self.progress, Progress::Free) {
+            Progress::Free => self.claim(port),
+            Progress::Claimed(job) => self.send(job, port, wires),
+            Progress::Sent(job) => self.run(job, port, wires),
+            Progress::Run(job, head) => self.finish(job, &head, port, wires),
+        }
+    }
+
+    // Claims a job, if one waits.
+    fn claim<P: WorkPort>(&mut self, port: &mut P) -> Step
+        requires free { self.old ≡ Progress.Free }
+        requires in_hand { (P.known port.old).in_hand ≡ None }
+        ensures works { WithoutJob (P.known port.old) result self.new (P.known port.new) }
+        ensures hand { (P.known port.new).in_hand ≡ number_in_hand self.new }
+        ensures head { holds_head self.new ≡ true }
+        ensures rest { P.rest port.new ≡ P.rest port.old }
+    {
+        match port.claim() {
+            Some(job) => {
+                let number = job.number;
+                self.progress = Progress::Claimed(job);
+                Step::Claim(number)
+            }
+            None => Step::Idle,
+        }
+    }
+
+    // Sends the command of a claimed job, or answers a job that was cancelled.
+    fn send<P: WorkPort, W: Wires>(&mut self, job: Job, port: &mut P, wires: &mut W) -> Step
+        requires free { self.old ≡ Progress.Free }
+        requires in_hand { (P.known port.old).in_hand ≡ Some job.number }
+        ensures works { let before = wires_seen W.fails W.later (W.link wires.old) (W.plan wires.old) (W.faults wires.old) in
+            let after = wires_seen W.fails W.later (W.link wires.new) (W.plan wires.new) (W.faults wires.new) in
+            WithClaimed job (P.known port.old) before result self.new (P.known port.new) after }
+        ensures untouched { job.cancelled ≡ true → wires.new ≡ wires.old }
+        ensures hand { (P.known port.new).in_hand ≡ number_in_hand self.new }
+        ensures head { holds_head self.new ≡ true }
+        ensures rest { P.rest port.new ≡ P.rest port.old }
+    {
+        if job.cancelled {
+            return answer_cancelled(job, port);
+        }
+        let sent = wires.send(Chan::Data, first_frame(job.buf.bytes()));
+        if sent.is_err() {
+            return give_up(job, port);
+        }
+        let number = job.number;
+        self.progress = Progress::Sent(job);
+        Step::Sent(number)
+    }
+
+    // Receives the header of the response to a command that was sent.
+    fn run<P: WorkPort, W: Wires>(&mut self, job: Job, port: &mut P, wires: &mut W) -> Step
+        requires free { self.old ≡ Progress.Free }
+        requires in_hand { (P.known port.old).in_hand ≡ Some job.number }
+        ensures works { let before = wires_seen W.fails W.later (W.link wires.old) (W.plan wires.old) (W.faults wires.old) in
+            let after = wires_seen W.fails W.later (W.link wires.new) (W.plan wires.new) (W.faults wires.new) in
+            WithSent job (P.known port.old) before result self.new (P.known port.new) after }
+        ensures hand { (P.known port.new).in_hand ≡ number_in_hand self.new }
+        ensures head { holds_head self.new ≡ true }
+        ensures rest { P.rest port.new ≡ P.rest port.old }
+    {
+        let Ok(head) = receive_head(wires) else {
+            return give_up(job, port);
+        };
+        if !is_head(&head) {
+            return give_up(job, port);
+        }
+        let number = job.number;
+        self.progress = Progress::Run(job, head);
+        Step::Exec(number)
+    }
+
+    // Receives the rest of the response, and posts the answer.
+    fn finish<P: WorkPort, W: Wires>(
+        &mut self,
+        job: Job,
+        head: &[u8; HEADER_SIZE],
+        port: &mut P,
+        wires: &mut W,
+    ) -> Step
+        requires free { self.old ≡ Progress.Free }
+        requires in_hand { (P.known port.old).in_hand ≡ Some job.number }
+        requires head { IsHead head.now ≡ true }
+        ensures works { let before = wires_seen W.fails W.later (W.link wires.old) (W.plan wires.old) (W.faults wires.old) in
+            let after = wires_seen W.fails W.later (W.link wires.new) (W.plan wires.new) (W.faults wires.new) in
+            WithRun job head.now (P.known port.old) before result self.new (P.known port.new) after }
+        ensures untouched { is_longer head.now ≡ false → wires.new ≡ wires.old }
+        ensures hand { (P.known port.new).in_hand ≡ number_in_hand self.new }
+        ensures holds { holds_head self.new ≡ true }
+        ensures rest { P.rest port.new ≡ P.rest port.old }
+    {
+        let number = job.number;
+        let mut job = job;
+        let Ok(cancelled) = hold_response(head, &mut job.buf, wires) else {
+            return give_up(job, port);
+        };
+        if cancelled {
+            port.post(Answer {
+                number,
+                outcome: Outcome::Cancelled,
+                buf: job.buf,
+            });
+            return Step::Cancelled(number);
+        }
+        port.post(Answer {
+            number,
+            outcome: Outcome::Done,
+            buf: job.buf,
+        });
+        Step::Done(number)
+    }
+}
+
+// Answers a job that was cancelled.
+fn answer_cancelled<P: WorkPort>(job: Job, port: &mut P) -> Step
+    requires in_hand { (P.known port.old).in_hand ≡ Some job.number }
+    ensures step { result ≡ Step.Cancelled job.number }
+    ensures posted { Posts (P.known port.old) (answered job Outcome.Cancelled (short CANCELED)) (P.known port.new) }
+    ensures rest { P.rest port.new ≡ P.rest port.old }
+{
+    let number = job.number;
+    let mut buf = job.buf;
+    write_short(CANCELED, &mut buf);
+    port.post(Answer {
+        number,
+        outcome: Outcome::Cancelled,
+        buf,
+    });
+    Step::Cancelled(number)
+}
+
+// Gives a job up: the answer says that it is lost, and its buffer goes back as it came.
+fn give_up<P: WorkPort>(job: Job, port: &mut P) -> Step
+    requires in_hand { (P.known port.old).in_hand ≡ Some job.number }
+    ensures step { result ≡ Step.Lost job.number }
+    ensures posted { Posts (P.known port.old) (lost job) (P.known port.new) }
+    ensures rest { P.rest port.new ≡ P.rest port.old }
+{
+    let number = job.number;
+    port.post(Answer {
+        number,
+        outcome: Outcome::Lost,
+        buf: job.buf,
+    });
+    Step::Lost(number)
+}
