@@ -1,18 +1,19 @@
--- The lines of a script with their replies, and the history that they tell.
-use Rattle.std.specs.Prelude.{◌≡◌, ℕ, Bool, if◌then◌else◌, List, [], ◌∷◌, Option, Some, None, IsSome}
-use Rattle.crb_regs.specs.Registers.{is_executing}
-use Rattle.crb_port.specs.declared.job.Outcome.TheVariants.{Done, Cancelled}
+-- The lines of a script with their replies, and the history that they tell. (Own definitions.)
+use Rattle.std.specs.Prelude.{◌≡◌, ℕ, ◌+◌, Bool, true, false, not, ◌&&◌, nat_le, nat_lt, if◌then◌else◌, List, [], ◌∷◌, length, Option, Some, None, is_some, IsSome, ⊤}
+use Rattle.crb_regs.specs.Registers.{is_executing, is_lost}
+use Rattle.crb_port.specs.declared.job.Outcome.TheVariants.{Done, Cancelled, Lost}
+use Rattle.tpm_core.specs.Answers.{answer}
 use Rattle.vt_script.specs.declared.event.Event.{Event as Line}
-use Rattle.vt_script.specs.declared.event.Event.TheVariants.{Access, Work, Reset as ResetLine}
+use Rattle.vt_script.specs.declared.event.Event.TheVariants.{Access, Work, Ask as AskLine, Reset as ResetLine, Fail}
 use Rattle.vt_script.specs.declared.reply.Reply.{Reply}
 use Rattle.vt_script.specs.declared.reply.Reply.TheVariants as replied
 use Rattle.crb_history.specs.Base.{Base}
 use Rattle.crb_history.specs.Event.{History}
-use Rattle.crb_history.specs.Event.Event.{Read, Write, Claim, Sent, Exec, Finish, Reset}
-use Rattle.crb_history.specs.Device.{phase_of, number_of, stage_of, Stage}
+use Rattle.crb_history.specs.Event.Event.{Read, Write, Claim, Sent, Exec, Finish, Ask, Reset, ResetLost}
+use Rattle.crb_history.specs.Device.{phase_of, number_of, stage_of, last_command, executed, Stage}
 use Rattle.crb_history.specs.Device.Stage.{Waiting, Claimed, HasSent, HasRun}
-use Rattle.crb_history.specs.Asked.{held_back}
-use Rattle.crb_history.specs.Legal.{Legal, IsClaimed, MayReset}
+use Rattle.crb_history.specs.Asked.{held_back, asked_in_time, is_waiting}
+use Rattle.crb_history.specs.Legal.{Legal}
 
 -- a line, where it is in the grammar, with its reply
 pub record Exchange : Type 0 where
@@ -23,52 +24,143 @@ pub record Exchange : Type 0 where
 abbrev pub Transcript : Type 0
 Transcript = List Exchange
 
--- the history after a line and its reply
-abbrev pub with_event : Option Line → Reply → History → History
-with_event (Some (Access a)) (replied.Value value size) p = Read a value ∷ p
-with_event (Some (Access a)) replied.Accepted p = Write a ∷ p
-with_event (Some Work) (replied.Claim number) p = Claim ∷ p
-with_event (Some Work) (replied.Sent number) p = Sent ∷ p
-with_event (Some Work) (replied.Exec number) p = Exec ∷ p
-with_event (Some Work) (replied.Done number) p = Finish Done ∷ p
-with_event (Some Work) (replied.Cancelled number) p = Finish Cancelled ∷ p
-with_event (Some ResetLine) replied.Reset p = Reset ∷ p
-with_event _ _ p = p
+-- ---- orders: the call of a number, counted from its line, on the wires between device and emulator is to fail
 
--- the history that lines and replies tell
-abbrev pub history : Transcript → History
-history [] = []
-history (x ∷ t) = with_event x.line x.reply (history t)
+-- whether the reply says that a call failed
+abbrev pub is_fault : Reply → Bool
+is_fault (replied.Lost number) = true
+is_fault replied.Link = true
+is_fault _ = false
 
--- the reply to a step of the worker, by the stage of the last command and whether it was held back
-abbrev pub turn_at : Stage → Bool → ℕ → Reply
-turn_at Waiting held number = replied.Claim number
-turn_at Claimed held number = if held then replied.Cancelled number else replied.Sent number
-turn_at HasSent held number = replied.Exec number
-turn_at HasRun held number = replied.Done number
+-- the order after a line and its reply: a later one takes its place, and a fault ends it
+abbrev pub order_after : Option Line → Reply → Option ℕ → Option ℕ
+order_after (Some (Fail host call)) reply order = Some call
+order_after _ reply order = if is_fault reply then None else order
+
+-- the number of the call that is to fail, where an order stands
+abbrev pub order_of : Transcript → Option ℕ
+order_of [] = None
+order_of (x ∷ t) = order_after x.line x.reply (order_of t)
+
+-- whether what follows the header of a response takes a call of its own
+abbrev pub has_rest : ℕ → Bool
+has_rest size = nat_lt 10 size
+
+-- how often the wires were called for a line with this reply, by the length of the last command's response
+abbrev pub calls_of : Option Line → Reply → ℕ → ℕ
+calls_of (Some Work) (replied.Sent number) size = 1
+calls_of (Some Work) (replied.Exec number) size = 1
+calls_of (Some Work) (replied.Done number) size = if has_rest size then 1 else 0
+calls_of (Some AskLine) replied.Asked size = 2
+calls_of (Some ResetLine) replied.Reset size = 2
+calls_of _ _ size = 0
+
+-- the calls since the last order's line, with those for one line more
+abbrev pub count_after : Option Line → Reply → ℕ → ℕ → ℕ
+count_after (Some (Fail host call)) reply size count = 0
+count_after line reply size count = count + calls_of line reply size
+
+-- whether so many calls after `count` others meet the order
+abbrev pub reaches : Option ℕ → ℕ → Bool
+reaches None count = false
+reaches (Some call) count = nat_le call count
+
+-- ---- the history
+
+-- the history after a line and its reply. `fails` says whether one of so many next calls is to fail: an ask that is
+-- answered `link` arrived where only the second of its two calls failed, which receives the reply.
+abbrev pub with_event : Option Line → Reply → (ℕ → Bool) → History → History
+with_event (Some (Access a)) (replied.Value value size) fails p = Read a value ∷ p
+with_event (Some (Access a)) replied.Accepted fails p = Write a ∷ p
+with_event (Some Work) (replied.Claim number) fails p = Claim ∷ p
+with_event (Some Work) (replied.Sent number) fails p = Sent ∷ p
+with_event (Some Work) (replied.Exec number) fails p = Exec ∷ p
+with_event (Some Work) (replied.Done number) fails p = Finish Done ∷ p
+with_event (Some Work) (replied.Cancelled number) fails p = Finish Cancelled ∷ p
+with_event (Some Work) (replied.Lost number) fails p = Finish Lost ∷ p
+with_event (Some AskLine) replied.Asked fails p = Ask true ∷ p
+with_event (Some AskLine) replied.Link fails p = Ask (not (fails 1)) ∷ p
+with_event (Some ResetLine) replied.Reset fails p = Reset ∷ p
+with_event (Some ResetLine) replied.Link fails p = ResetLost ∷ p
+with_event _ _ fails p = p
+
+-- the length of the response to the last command
+abbrev pub response_length : Base → History → ℕ
+response_length b p = length (answer b.tpm (executed b p) (last_command b p))
+
+abbrev mutual
+  -- the history that lines and replies tell
+  pub history : Base → Transcript → History
+  history b [] = []
+  history b (x ∷ t) = with_event x.line x.reply (λ calls. reaches (order_of t) (call_count b t + calls)) (history b t)
+
+  -- the calls since the last order's line
+  pub call_count : Base → Transcript → ℕ
+  call_count b [] = 0
+  call_count b (x ∷ t) = count_after x.line x.reply (response_length b (history b t)) (call_count b t)
+
+-- whether one of so many next calls is to fail
+abbrev pub fails_within : Base → Transcript → ℕ → Bool
+fails_within b t calls = reaches (order_of t) (call_count b t + calls)
+
+-- ---- the one reply that each line may have
+
+-- what the reply to a step of the worker rests on, beside the stage of the last command: whether it was held back, whether
+-- a cancel came in time, its number, and the length of its response
+pub record Turning : Type 0 where
+  pub held : Bool
+  pub in_time : Bool
+  pub number : ℕ
+  pub size : ℕ
+
+-- the reply to a step of the worker, by the stage of the last command
+abbrev pub turn_at : Stage → Turning → (ℕ → Bool) → Reply
+turn_at Waiting x fails = replied.Claim x.number
+turn_at Claimed x fails = if x.held then replied.Cancelled x.number else (if fails 1 then replied.Lost x.number else replied.Sent x.number)
+turn_at HasSent x fails = if fails 1 then replied.Lost x.number else replied.Exec x.number
+turn_at HasRun x fails =
+    if x.in_time then replied.Cancelled x.number
+    else (if has_rest x.size && fails 1 then replied.Lost x.number else replied.Done x.number)
+
+abbrev pub turning_of : Base → History → Turning
+turning_of b p = record { held = held_back b p; in_time = asked_in_time b p; number = number_of b p; size = response_length b p }
 
 -- the reply to a step of the worker
-abbrev pub turn : Base → History → Reply
-turn b p = if is_executing (phase_of b p) then turn_at (stage_of b p) (held_back b p) (number_of b p) else replied.Idle
+abbrev pub turn : Base → History → (ℕ → Bool) → Reply
+turn b p fails = if is_executing (phase_of b p) then turn_at (stage_of b p) (turning_of b p) fails else replied.Idle
 
--- the reply is one to this line: a value of its size to a read, `ok` to a write, the one due to a step of the worker,
--- and to a reset `not yet` exactly where a command is claimed and unfinished
-abbrev pub Answers : Base → History → Option Line → Reply → Type 0
-Answers b p (Some (Access a)) (replied.Value value size) = (a.write ≡ None) × (size ≡ a.size)
-Answers b p (Some (Access a)) replied.Accepted = IsSome a.write
-Answers b p (Some (Access a)) _ = ⊥
-Answers b p (Some Work) reply = reply ≡ turn b p
-Answers b p (Some ResetLine) replied.Reset = MayReset b p
-Answers b p (Some ResetLine) replied.NotYet = IsClaimed b p
-Answers b p (Some ResetLine) _ = ⊥
-Answers b p None reply = ⊥
+-- a command is claimed and unfinished
+abbrev pub is_under_way : Base → History → Bool
+is_under_way b p = is_executing (phase_of b p) && not (is_waiting (stage_of b p))
 
--- each reply is one to its line, after the lines and replies before it
+-- the reply to a reset
+abbrev pub reset_reply : Base → History → (ℕ → Bool) → Reply
+reset_reply b p fails =
+    if is_lost (phase_of b p) then replied.FailedDevice
+    else (if is_under_way b p then replied.NotYet
+    else (if fails 2 then replied.Link else replied.Reset))
+
+-- the reply to a cancel beside the registers
+abbrev pub ask_reply : (ℕ → Bool) → Reply
+ask_reply fails = if fails 2 then replied.Link else replied.Asked
+
+-- the reply is the one to this line: a value of its size to a read, `ok` to a write or an order, and else the one that is due
+abbrev pub Answers : Base → History → (ℕ → Bool) → Option Line → Reply → Type 0
+Answers b p fails (Some (Access a)) (replied.Value value size) = (a.write ≡ None) × (size ≡ a.size)
+Answers b p fails (Some (Access a)) replied.Accepted = IsSome a.write
+Answers b p fails (Some (Access a)) _ = ⊥
+Answers b p fails (Some Work) reply = reply ≡ turn b p fails
+Answers b p fails (Some AskLine) reply = reply ≡ ask_reply fails
+Answers b p fails (Some ResetLine) reply = reply ≡ reset_reply b p fails
+Answers b p fails (Some (Fail host call)) reply = reply ≡ replied.Accepted
+Answers b p fails None reply = ⊥
+
+-- each reply is the one to its line, after the lines and replies before it
 abbrev pub InTurn : Base → Transcript → Type 0
-InTurn b [] = Unit {0}
-InTurn b (x ∷ t) = InTurn b t × Answers b (history t) x.line x.reply
+InTurn b [] = ⊤
+InTurn b (x ∷ t) = InTurn b t × Answers b (history b t) (fails_within b t) x.line x.reply
 
 -- the replies are those of one device over one TPM
 pub record IsRun (b : Base) (t : Transcript) : Type 0 where
-  pub legal : Legal b (history t)
+  pub legal : Legal b (history b t)
   pub in_turn : InTurn b t

@@ -115,6 +115,10 @@ after_reset_at _ d = reset_of (collected d)
 abbrev pub after_reset : DeviceState → DeviceState
 after_reset d = after_reset_at d.slot d
 
+-- the device once it is given up
+abbrev pub failed : DeviceState → DeviceState
+failed d = record d { regs = record d.regs { phase = Lost } }
+
 -- the device once the answer to its claimed job was posted
 abbrev pub answered : Answer → DeviceState → DeviceState
 answered answer d = record d { slot = Answered answer }

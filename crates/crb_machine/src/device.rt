@@ -2,7 +2,7 @@
 ghost use Rattle.std.specs.Prelude.{◌≡◌, ◌^◌, ◌<◌, true, Some, None, Ok, IfOk, IfSome, IsSome, IsSomeAnd, IsNone};
 ghost use Rattle.crb_regs.specs.LittleEndian.{number_at};
 ghost use Rattle.vt_base.specs.Buffer.{zeros};
-ghost use Rattle.crb_machine.specs.Steps.{reset_regs, fresh_state, collected, written, device_byte, after_reset, reset_reply, answered, TakesJob};
+ghost use Rattle.crb_machine.specs.Steps.{reset_regs, fresh_state, collected, written, device_byte, after_reset, reset_reply, failed, answered, TakesJob};
 ghost use Rattle.crb_machine.specs.Over.{IsSound, HasInHand, Settles, Writes, Resets, own_byte, state_of};
 ghost use Rattle.crb_port.specs.Calls.{KeepsWorker, Claims, Posts};
 
@@ -115,6 +115,20 @@ impl<P: Port> Device<P> {
         ensures told_result { IfSome (state_of P.known self.old) (λ d. result ≡ reset_reply d) }
     {
         self.parts.reset()
+    }
+
+    /// The device is given up: it is lost, and stays so. Its port has to be free, so that no command is under way.
+    pub fn fail(&mut self)
+        requires free { (P.known self.old.port).is_free ≡ true }
+
+        ensures failed { self.new ≡ record self.old { regs = record self.old.regs { phase = Phase.Lost } } }
+        ensures sound { IsSound P.known self.new }
+        ensures hand { HasInHand P.known self.new }
+
+        // Over a port that tells its state.
+        ensures told { IfSome (state_of P.known self.old) (λ d. state_of P.known self.new ≡ Some (failed d)) }
+    {
+        self.parts.regs.phase = Phase::Lost;
     }
 
     /// The phase that the registers show. An answer that stands isn't seen until the next access.

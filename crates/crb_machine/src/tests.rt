@@ -51,6 +51,13 @@ impl Bench {
         Ok(Bench { device, job: None })
     }
 
+    // A bench whose device is given up.
+    fn failed(alloc: Global) -> Result<Bench, AllocError> {
+        let mut device = Device::new(alloc, PlainPort::new())?;
+        device.fail();
+        Ok(Bench { device, job: None })
+    }
+
     // Does a step; false where it can't be done, or the device shows something else.
     fn does(&mut self, step: Step) -> bool {
         match step {
@@ -86,6 +93,18 @@ impl Bench {
         self.job.is_some()
     }
 
+    // Does some scripts. The first step that isn't as it is to be, by script and place.
+    fn first_wrong(&mut self, scripts: &[&[Step]]) -> Option<(usize, usize)> {
+        for (script, steps) in scripts.iter().enumerate() {
+            for (place, step) in steps.iter().enumerate() {
+                if !self.does(*step) {
+                    return Some((script, place));
+                }
+            }
+        }
+        None
+    }
+
     fn answers(&mut self, outcome: Outcome, response: &[u8]) -> bool {
         if response.len() > BUFFER_LENGTH {
             return false;
@@ -113,14 +132,7 @@ impl Bench {
 // Does some scripts on a device after a reset. The first step that isn't as it is to be, by script and place.
 fn first_wrong(alloc: Global, scripts: &[&[Step]]) -> Result<Option<(usize, usize)>, AllocError> {
     let mut bench = Bench::new(alloc)?;
-    for (script, steps) in scripts.iter().enumerate() {
-        for (place, step) in steps.iter().enumerate() {
-            if !bench.does(*step) {
-                return Ok(Some((script, place)));
-            }
-        }
-    }
-    Ok(None)
+    Ok(bench.first_wrong(scripts))
 }
 
 // Takes access and starts the command Startup(CLEAR).
@@ -406,6 +418,35 @@ fn reset_of_a_lost_device(rt: HostRuntime) -> Result<(), Fail> {
     );
     assert_eq!(rt;
         first_wrong(rt.alloc(), &[&STARTUP, &lost, &seen, &reset])?,
+        None
+    );
+    Ok(())
+}
+
+#[test]
+fn device_that_is_given_up(rt: HostRuntime) -> Result<(), Fail> {
+    let shows = [
+        Shows(Phase::Lost, 0),
+        Read(0x44, 4, 1),
+        Read(0x4C, 4, 0),
+        Read(0x80, 4, 0xFFFF_FFFF),
+        NoJob,
+    ];
+    // Requests of access, cmdReady and goIdle, a cancel, and a command with its start.
+    let requests = [
+        Write(0x08, 4, 1),
+        Write(0x40, 4, 1),
+        Write(0x40, 4, 2),
+        Write(0x48, 4, 1),
+        Read(0x00, 4, 0x81),
+        Read(0x48, 4, 0),
+    ];
+    let reset = [Reset(None)];
+    let mut bench = Bench::failed(rt.alloc())?;
+    assert_eq!(rt;
+        bench.first_wrong(&[
+            &shows, &requests, &shows, &STARTUP, &shows, &reset, &shows, &requests, &shows
+        ]),
         None
     );
     Ok(())

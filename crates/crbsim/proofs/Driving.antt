@@ -1,4 +1,4 @@
--- What a driver's accesses lead a session through: the command's bytes are written and it is started.
+-- What a driver's accesses lead a world through: the command's bytes are written and it is started.
 use Rattle.std.proofs.Common.{◌≡◌, ℕ, suc, ◌+◌, ◌-◌, ◌<◌, ◌≤◌, Bool, true, false, ◌&&◌, List, [], ◌∷◌, ◌++◌, length, take, drop, refl, ap, sym, subst, ◌∙◌, append_assoc, arith, Some}
 use Rattle.std.specs.Prelude.{slice_index, nat_le, nat_lt, if◌then◌else◌, ◌==◌}
 use Rattle.std.proofs.lemmas.Bool.Decides.{nat_tests}
@@ -22,18 +22,18 @@ use Rattle.crb_history.specs.Event.{History}
 use Rattle.crb_history.specs.Event.Event.{Read, Write}
 use Rattle.crb_history.specs.Device.{effect_of, phase_of, is_granted, is_cancel, buffer, last_command, executed, shows, Stage}
 use Rattle.crb_history.specs.Device.Stage.{Waiting}
-use Rattle.crb_history.specs.Asked.{held_back}
+use Rattle.crb_history.specs.Asked.{held_back, asked_in_time}
 use Rattle.crb_history.specs.Legal.{IsAt}
-use Rattle.crbsim.specs.Bus.{IsAfter, Leads}
-use Rattle.crbsim.specs.declared.session.Session.{Session}
+use Rattle.vt_world.specs.Follows.{WorldState}
+use Rattle.vt_world.specs.Bus.{IsAfter, Leads}
 use Rattle.crb_history.proofs.Bytes.{bytes_at-same, take-bytes_at, take-drop-bytes_at}
 
--- the session stands after some history of this kind
-pub record Found (P : History → Session → Type 0) (s : Session) : Type 0 where
+-- the world stands after some history of this kind
+pub record Found (P : History → WorldState → Type 0) (s : WorldState) : Type 0 where
   pub history : History
   pub holds : P history s
 
-pub found-at : (P : History → Session → Type 0) (p : History) (s end : Session) → s ≡ end → P p s → Found P end
+pub found-at : (P : History → WorldState → Type 0) (p : History) (s end : WorldState) → s ≡ end → P p s → Found P end
 found-at P p s end is holds = record { history = p; holds = rw (← is) holds }
 
 -- accesses in two parts
@@ -56,7 +56,7 @@ pub record Tells (b : Base) (p : History) (now : Standing) : Type 0 where
   pub cancel : is_cancel b p ≡ now.cancel
   pub past : executed b p ≡ now.past
 
-pub record Stands (b : Base) (now : Standing) (p : History) (s : Session) : Type 0 where
+pub record Stands (b : Base) (now : Standing) (p : History) (s : WorldState) : Type 0 where
   pub after : IsAfter b p s
   pub tells : Tells b p now
 
@@ -79,7 +79,7 @@ tells-write b p a e phase now is next tells = record {
   past = tells.past;
 }
 
-stands-write : (b : Base) (now : Standing) (p : History) (s next : Session) (offset size value : ℕ) (e : Effect) (phase : Phase) → effect offset size value ≡ e → next_phase e now.granted now.phase ≡ Some phase → Stands b now p s → Leads s (writing offset size value).access value next
+stands-write : (b : Base) (now : Standing) (p : History) (s next : WorldState) (offset size value : ℕ) (e : Effect) (phase : Phase) → effect offset size value ≡ e → next_phase e now.granted now.phase ≡ Some phase → Stands b now p s → Leads s (writing offset size value).access value next
     → Stands b (after_effect e phase now) (Write (writing offset size value).access ∷ p) next
 stands-write b now p s next offset size value e phase is accepted stands leads = record {
   after = leads b p stands.after;
@@ -87,7 +87,7 @@ stands-write b now p s next offset size value e phase is accepted stands leads =
 }
 
 -- a read elsewhere than at START
-stands-read : (b : Base) (now : Standing) (p : History) (s next : Session) (offset size value : ℕ) → (offset == 0x4C) ≡ false → Stands b now p s → Leads s (reading offset size value).access value next
+stands-read : (b : Base) (now : Standing) (p : History) (s next : WorldState) (offset size value : ℕ) → (offset == 0x4C) ≡ false → Stands b now p s → Leads s (reading offset size value).access value next
     → Stands b now (Read (reading offset size value).access value ∷ p) next × (value ≡ number_at (shows b p) offset size)
 stands-read b now p s next offset size value elsewhere stands leads =
     let after : IsAfter b (Read (reading offset size value).access value ∷ p) next = rw elsewhere at (leads b p stands.after) in (
@@ -96,7 +96,7 @@ stands-read b now p s next offset size value elsewhere stands leads =
     )
 
 -- access is asked for, and granted
-pub requested : (b : Base) (p : History) (s end : Session) (granted cancel : Bool) (past : List Entry) (loc_sts : ℕ) → Stands b (at Idle granted cancel past) p s → Reaches Leads s (request_accesses loc_sts) end
+pub requested : (b : Base) (p : History) (s end : WorldState) (granted cancel : Bool) (past : List Entry) (loc_sts : ℕ) → Stands b (at Idle granted cancel past) p s → Reaches Leads s (request_accesses loc_sts) end
     → Found (Stands b (at Idle true cancel past)) end × (loc_sts ≡ 1)
 requested b p s end granted cancel past loc_sts stands r =
     let one = stands-write b (at Idle granted cancel past) p s r.0 8 4 1 Request Idle refl refl stands r.1 in
@@ -105,7 +105,7 @@ requested b p s end granted cancel past loc_sts stands r =
     (found-at (Stands b (at Idle true cancel past)) (Read (reading 12 4 loc_sts).access loc_sts ∷ Write (writing 8 4 1).access ∷ p) r.2.0 end r.2.2 two.0, two.1 ∙ shown)
 
 -- the interface is made ready
-pub readied : (b : Base) (p : History) (s end : Session) (granted cancel : Bool) (past : List Entry) (loc_sts ctrl_sts : ℕ) → Stands b (at Idle granted cancel past) p s → Reaches Leads s (ready_accesses loc_sts ctrl_sts) end
+pub readied : (b : Base) (p : History) (s end : WorldState) (granted cancel : Bool) (past : List Entry) (loc_sts ctrl_sts : ℕ) → Stands b (at Idle granted cancel past) p s → Reaches Leads s (ready_accesses loc_sts ctrl_sts) end
     → Found (Stands b (at Ready true cancel past)) end × (ctrl_sts ≡ 0)
 readied b p s end granted cancel past loc_sts ctrl_sts stands reaches =
     let parts = reaches-split Leads s end (request_accesses loc_sts) (writing 0x40 4 1 ∷ reading 0x44 4 ctrl_sts ∷ []) reaches in
@@ -117,7 +117,7 @@ readied b p s end granted cancel past loc_sts ctrl_sts stands reaches =
     (found-at (Stands b (at Ready true cancel past)) (Read (reading 0x44 4 ctrl_sts).access ctrl_sts ∷ Write (writing 0x40 4 1).access ∷ before.history) r.2.0 end r.2.2 two.0, two.1 ∙ shown)
 
 -- these bytes were written
-record Received (b : Base) (phase : Phase) (past : List Entry) (done : List ℕ) (p : History) (s : Session) : Type 0 where
+record Received (b : Base) (phase : Phase) (past : List Entry) (done : List ℕ) (p : History) (s : WorldState) : Type 0 where
   pub stands : Stands b (at phase true false past) p s
   pub bytes : (i : ℕ) → i < length done → buffer b p i ≡ slice_index done i
 
@@ -134,7 +134,7 @@ byte-now done offset byte i was from here small =
 effect-byte : (offset byte : ℕ) → 0x80 ≤ offset → effect offset 1 byte ≡ Buffer
 effect-byte offset byte from = grind (arith, nat_tests)
 
-received-one : (b : Base) (phase : Phase) (past : List Entry) (done : List ℕ) (p : History) (s next : Session) (offset byte : ℕ) → offset ≡ 0x80 + length done → byte < 256 → next_phase Buffer true phase ≡ Some Reception → Received b phase past done p s → Leads s (writing offset 1 byte).access byte next
+received-one : (b : Base) (phase : Phase) (past : List Entry) (done : List ℕ) (p : History) (s next : WorldState) (offset byte : ℕ) → offset ≡ 0x80 + length done → byte < 256 → next_phase Buffer true phase ≡ Some Reception → Received b phase past done p s → Leads s (writing offset 1 byte).access byte next
     → Received b Reception past (done ++ byte ∷ []) (Write (writing offset 1 byte).access ∷ p) next
 received-one b phase past done p s next offset byte from small accepted received leads =
     let is : effect offset 1 byte ≡ Buffer = effect-byte offset byte (omega arith) in
@@ -156,7 +156,7 @@ received-one b phase past done p s next offset byte from small accepted received
         by_test false test = byte-now done offset byte i (buffer b p i) from (grind (arith, nat_tests, test, lt)) small
 
 -- bytes one after the other
-received-all : (b : Base) (phase : Phase) (past : List Entry) (done : List ℕ) (p : History) (s end : Session) (offset byte : ℕ) (bytes : List ℕ) → offset ≡ 0x80 + length done → ((i : ℕ) → slice_index (byte ∷ bytes) i < 256) → next_phase Buffer true phase ≡ Some Reception → Received b phase past done p s → Reaches Leads s (byte_writes offset (byte ∷ bytes)) end
+received-all : (b : Base) (phase : Phase) (past : List Entry) (done : List ℕ) (p : History) (s end : WorldState) (offset byte : ℕ) (bytes : List ℕ) → offset ≡ 0x80 + length done → ((i : ℕ) → slice_index (byte ∷ bytes) i < 256) → next_phase Buffer true phase ≡ Some Reception → Received b phase past done p s → Reaches Leads s (byte_writes offset (byte ∷ bytes)) end
     → Found (Received b Reception past (done ++ byte ∷ bytes)) end
 received-all b phase past done p s end offset byte [] from small accepted received r =
     found-at (Received b Reception past (done ++ byte ∷ [])) (Write (writing offset 1 byte).access ∷ p) r.0 end r.2 (received-one b phase past done p s r.0 offset byte from (small 0) accepted received r.1)
@@ -181,15 +181,16 @@ command_in-whole f command sized same =
     ap (bytes_at f 0) length_is ∙ bytes_at-same f (slice_index command) (length command) same 0 (length command) (omega arith) ∙ sym (take-bytes_at command (length command) (omega arith)) ∙ take-all command
 
 -- the command runs and has come so far
-pub record Runs (b : Base) (stage : Stage) (past : List Entry) (command : List ℕ) (p : History) (s : Session) : Type 0 where
+pub record Runs (b : Base) (stage : Stage) (past : List Entry) (command : List ℕ) (p : History) (s : WorldState) : Type 0 where
   pub after : IsAfter b p s
   pub at : IsAt b p stage
   pub held : held_back b p ≡ false
+  pub in_time : asked_in_time b p ≡ false
   pub last : last_command b p ≡ command
   pub done : executed b p ≡ past
 
 -- the command is started
-begun : (b : Base) (past : List Entry) (command : List ℕ) (p : History) (s next : Session) → IsWellSized command → Received b Reception past command p s → Leads s (writing 0x4C 4 1).access 1 next
+begun : (b : Base) (past : List Entry) (command : List ℕ) (p : History) (s next : WorldState) → IsWellSized command → Received b Reception past command p s → Leads s (writing 0x4C 4 1).access 1 next
     → Runs b Waiting past command (Write (writing 0x4C 4 1).access ∷ p) next
 begun b past command p s next sized received leads =
     let granted = received.stands.tells.granted in
@@ -198,12 +199,13 @@ begun b past command p s next sized received leads =
       after = leads b p received.stands.after;
       at = record { executing = rw (granted, here) refl; reached = rw (granted, here) refl };
       held = rw (granted, here) received.stands.tells.cancel;
+      in_time = rw (granted, here) refl;
       last = rw (granted, here) (command_in-whole (buffer b p) command sized received.bytes);
       done = received.stands.tells.past;
     }
 
 -- CANCEL is cleared, and the command is written and started
-sent-off : (b : Base) (p : History) (s end : Session) (cancel : Bool) (past : List Entry) (command : List ℕ) → IsWellSized command → ((i : ℕ) → slice_index command i < 256) → Stands b (at Ready true cancel past) p s → Reaches Leads s (send_accesses command) end → Found (Runs b Waiting past command) end
+sent-off : (b : Base) (p : History) (s end : WorldState) (cancel : Bool) (past : List Entry) (command : List ℕ) → IsWellSized command → ((i : ℕ) → slice_index command i < 256) → Stands b (at Ready true cancel past) p s → Reaches Leads s (send_accesses command) end → Found (Runs b Waiting past command) end
 sent-off b p s end cancel past [] sized small stands r = absurd (omega (arith, sized.fits.least))
 sent-off b p s end cancel past (byte ∷ bytes) sized small stands r =
     let one = stands-write b (at Ready true cancel past) p s r.0 0x48 4 0 (Cancel false) Ready refl refl stands r.1 in
@@ -213,7 +215,7 @@ sent-off b p s end cancel past (byte ∷ bytes) sized small stands r =
     found-at (Runs b Waiting past (byte ∷ bytes)) (Write (writing 0x4C 4 1).access ∷ all.history) parts.2.0 end parts.2.2 (begun b past (byte ∷ bytes) all.history parts.0 parts.2.0 sized all.holds parts.2.1)
 
 -- the whole way to a command that runs
-pub started : (b : Base) (p : History) (s end : Session) (granted cancel : Bool) (past : List Entry) (command : List ℕ) (loc_sts ctrl_sts : ℕ) → IsWellSized command → ((i : ℕ) → slice_index command i < 256) → Stands b (at Idle granted cancel past) p s → Reaches Leads s (start_accesses command loc_sts ctrl_sts) end → Found (Runs b Waiting past command) end
+pub started : (b : Base) (p : History) (s end : WorldState) (granted cancel : Bool) (past : List Entry) (command : List ℕ) (loc_sts ctrl_sts : ℕ) → IsWellSized command → ((i : ℕ) → slice_index command i < 256) → Stands b (at Idle granted cancel past) p s → Reaches Leads s (start_accesses command loc_sts ctrl_sts) end → Found (Runs b Waiting past command) end
 started b p s end granted cancel past command loc_sts ctrl_sts sized small stands reaches =
     let parts = reaches-split Leads s end (ready_accesses loc_sts ctrl_sts) (send_accesses command) reaches in
     let ready = (readied b p s parts.0 granted cancel past loc_sts ctrl_sts stands parts.1).0 in

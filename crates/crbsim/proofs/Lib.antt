@@ -1,13 +1,5 @@
-pub mod Phases
-pub mod Overwritten
-pub mod Held
-pub mod Jobs
-pub mod Writes
-pub mod Sessions
-pub mod Resets
 pub mod Prefixes
 pub mod Endings
 pub mod Words
 pub mod Driving
 pub mod Answering
-pub mod Buses

@@ -11,11 +11,10 @@ use Rattle.vt_script.specs.Drive.{drive_of, hex_line}
 use Rattle.vt_script.specs.Script.{lines_of, event_of}
 use Rattle.tpm_core.specs.Answers.{answer}
 use Rattle.tpm_core.specs.Answers.Entry.{Executed}
-use Rattle.crb_history.specs.Replies.{Transcript, history}
-use Rattle.crbsim.specs.declared.session.Session.{Session}
-use Rattle.crbsim.specs.Bus.{Responds}
+use Rattle.crb_history.specs.Replies.{Transcript}
+use Rattle.crbsim.specs.Calls.{Responds}
 use Rattle.crbsim.specs.Driven.{driven, past_of}
-use Rattle.crbsim.specs.Follows.{Follows, Steps}
+use Rattle.vt_world.specs.Follows.{WorldState, Follows, Steps, exchange}
 use Rattle.crbsim.specs.Start.{start}
 use Rattle.crbsim.specs.Run.{meanings, in_order, line_of, spelled, texts, replayed, driven_by}
 use Rattle.crbsim.specs.Loop.{AreDone, StandsAt, DrivesAt}
@@ -56,38 +55,38 @@ module _ {A L : Type 0} (grammar : List ℕ → Option L) (line : A → Option L
   done-bad text after cut bad =
       rw (done, cut, get-behind (in_order line t) (meanings grammar after) (grammar text) (length t) (sym (length-in_order line t))) (ap Some bad)
 
-pub stands-start : (script : List ℕ) (session : Session) → Follows start [] session → StandsAt script script [] session
-stands-start script session follows = record { lines = refl; run = record { legal = tt; in_turn = tt }; follows = follows }
+pub stands-start : (script : List ℕ) (world : WorldState) → Follows start [] world → StandsAt script script [] world
+stands-start script world follows = record { lines = refl; run = record { legal = tt; in_turn = tt }; follows = follows }
 
 -- one more line of a replay
-pub stands-more : (script rest : List ℕ) (t : Transcript) (old new : Session) (text after : List ℕ) (line : Line) (reply : Reply) → StandsAt script rest t old → lines_of rest ≡ text ∷ lines_of after → event_of text ≡ Some line → Steps start (history t) (Some line) reply new → StandsAt script after (record { line = Some line; reply = reply } ∷ t) new
+pub stands-more : (script rest : List ℕ) (t : Transcript) (old new : WorldState) (text after : List ℕ) (line : Line) (reply : Reply) → StandsAt script rest t old → lines_of rest ≡ text ∷ lines_of after → event_of text ≡ Some line → Steps start t line reply new → StandsAt script after (exchange line reply ∷ t) new
 stands-more script rest t old new text after line reply stands cut is steps = record {
-  lines = done-more event_of line_of script rest t stands.lines (record { line = Some line; reply = reply }) text after cut is;
+  lines = done-more event_of line_of script rest t stands.lines (exchange line reply) text after cut is;
   run = record { legal = steps.legal stands.run.legal; in_turn = (stands.run.in_turn, steps.answers) };
   follows = steps.follows;
 }
 
 -- what the lines so far give
-pub stands-gives : (script rest : List ℕ) (t : Transcript) (session : Session) → StandsAt script rest t session → (replayed script).Gives (length t) (texts t)
-stands-gives script rest t session stands = (t, record { lines = done-front event_of line_of script rest t stands.lines; run = stands.run }, refl, refl)
+pub stands-gives : (script rest : List ℕ) (t : Transcript) (world : WorldState) → StandsAt script rest t world → (replayed script).Gives (length t) (texts t)
+stands-gives script rest t world stands = (t, record { lines = done-front event_of line_of script rest t stands.lines; run = stands.run }, refl, refl)
 
-pub stands-all : (script rest : List ℕ) (t : Transcript) (session : Session) → StandsAt script rest t session → rest ≡ [] → length t ≡ length (lines_of script)
-stands-all script rest t session stands end = done-all event_of line_of script rest t stands.lines end
+pub stands-all : (script rest : List ℕ) (t : Transcript) (world : WorldState) → StandsAt script rest t world → rest ≡ [] → length t ≡ length (lines_of script)
+stands-all script rest t world stands end = done-all event_of line_of script rest t stands.lines end
 
-pub stands-bad : (script rest : List ℕ) (t : Transcript) (session : Session) (text after : List ℕ) → StandsAt script rest t session → lines_of rest ≡ text ∷ lines_of after → event_of text ≡ None → (replayed script).IsBad (length t)
-stands-bad script rest t session text after stands cut bad = done-bad event_of line_of script rest t stands.lines text after cut bad
+pub stands-bad : (script rest : List ℕ) (t : Transcript) (world : WorldState) (text after : List ℕ) → StandsAt script rest t world → lines_of rest ≡ text ∷ lines_of after → event_of text ≡ None → (replayed script).IsBad (length t)
+stands-bad script rest t world text after stands cut bad = done-bad event_of line_of script rest t stands.lines text after cut bad
 
-pub drives-start : (script : List ℕ) (session : Session) → Follows start [] session → DrivesAt script script [] session
-drives-start script session follows = record { done = refl; history = []; rest_at = record { after = record { follows = follows; legal = tt }; idle = refl }; past = refl }
+pub drives-start : (script : List ℕ) (world : WorldState) → Follows start [] world → DrivesAt script script [] world
+drives-start script world follows = record { done = refl; history = []; rest_at = record { after = record { transcript = []; follows = follows; unordered = refl; told = refl; legal = tt }; idle = refl }; past = refl }
 
 -- one more line of a drive, and the text of its response
-pub record DrivesOn (script after : List ℕ) (lines : List DriveLine) (line : DriveLine) (was now : List ℕ) (session : Session) : Type 0 where
-  pub drives : DrivesAt script after (line ∷ lines) session
+pub record DrivesOn (script after : List ℕ) (lines : List DriveLine) (line : DriveLine) (was now : List ℕ) (world : WorldState) : Type 0 where
+  pub drives : DrivesAt script after (line ∷ lines) world
   pub response : List ℕ
   pub appended : now ≡ was ++ response
   pub whole : driven start.tpm lines ++ response ≡ driven start.tpm (line ∷ lines)
 
-pub drives-more : (script rest : List ℕ) (lines : List DriveLine) (old new : Session) (text after : List ℕ) (line : DriveLine) (was now : List ℕ) (drives : DrivesAt script rest lines old) → lines_of rest ≡ text ∷ lines_of after → drive_of text ≡ Some line → Responds start drives.history line was now new → DrivesOn script after lines line was now new
+pub drives-more : (script rest : List ℕ) (lines : List DriveLine) (old new : WorldState) (text after : List ℕ) (line : DriveLine) (was now : List ℕ) (drives : DrivesAt script rest lines old) → lines_of rest ≡ text ∷ lines_of after → drive_of text ≡ Some line → Responds start drives.history line was now new → DrivesOn script after lines line was now new
 drives-more script rest lines old new text after (Cmd command) was now drives cut is responds =
     let calls = responds.1 in
     let answered : responds.0 ≡ answer start.tpm (past_of lines) command = calls.answered ∙ ap (λ past. answer start.tpm past command) drives.past in
@@ -103,11 +102,11 @@ drives-more script rest lines old new text after (Cmd command) was now drives cu
       whole = ap (λ response. driven start.tpm lines ++ hex_line response) answered;
     }
 
-pub drives-gives : (script rest : List ℕ) (lines : List DriveLine) (session : Session) → DrivesAt script rest lines session → (driven_by script).Gives (length lines) (driven start.tpm lines)
-drives-gives script rest lines session drives = (lines, done-front drive_of spelled script rest lines drives.done, refl, refl)
+pub drives-gives : (script rest : List ℕ) (lines : List DriveLine) (world : WorldState) → DrivesAt script rest lines world → (driven_by script).Gives (length lines) (driven start.tpm lines)
+drives-gives script rest lines world drives = (lines, done-front drive_of spelled script rest lines drives.done, refl, refl)
 
-pub drives-all : (script rest : List ℕ) (lines : List DriveLine) (session : Session) → DrivesAt script rest lines session → rest ≡ [] → length lines ≡ length (lines_of script)
-drives-all script rest lines session drives end = done-all drive_of spelled script rest lines drives.done end
+pub drives-all : (script rest : List ℕ) (lines : List DriveLine) (world : WorldState) → DrivesAt script rest lines world → rest ≡ [] → length lines ≡ length (lines_of script)
+drives-all script rest lines world drives end = done-all drive_of spelled script rest lines drives.done end
 
-pub drives-bad : (script rest : List ℕ) (lines : List DriveLine) (session : Session) (text after : List ℕ) → DrivesAt script rest lines session → lines_of rest ≡ text ∷ lines_of after → drive_of text ≡ None → (driven_by script).IsBad (length lines)
-drives-bad script rest lines session text after drives cut bad = done-bad drive_of spelled script rest lines drives.done text after cut bad
+pub drives-bad : (script rest : List ℕ) (lines : List DriveLine) (world : WorldState) (text after : List ℕ) → DrivesAt script rest lines world → lines_of rest ≡ text ∷ lines_of after → drive_of text ≡ None → (driven_by script).IsBad (length lines)
+drives-bad script rest lines world text after drives cut bad = done-bad drive_of spelled script rest lines drives.done text after cut bad

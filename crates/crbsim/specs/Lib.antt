@@ -1,6 +1,5 @@
 pub mod Start
-pub mod Follows
-pub mod Bus
+pub mod Calls
 pub mod Driven
 pub mod Run
 pub mod Loop

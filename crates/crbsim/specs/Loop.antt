@@ -3,32 +3,31 @@ use Rattle.std.specs.Prelude.{◌≡◌, ℕ, List, ◌++◌, Option}
 use Rattle.std.specs.Io.KnownBytes.{Appends}
 use Rattle.crb_history.specs.Device.{executed}
 use Rattle.crb_history.specs.Event.{History}
-use Rattle.crb_history.specs.Replies.{Transcript, IsRun, history}
+use Rattle.crb_history.specs.Replies.{Transcript, IsRun}
 use Rattle.vt_script.specs.Drive.{drive_of}
 use Rattle.vt_script.specs.Script.{event_of}
 use Rattle.vt_script.specs.declared.drive.DriveLine.{DriveLine}
-use Rattle.crbsim.specs.Bus.{IsAtRest}
+use Rattle.crbsim.specs.Calls.{IsAtRest}
 use Rattle.crbsim.specs.Driven.{past_of}
 use Rattle.crbsim.specs.Start.{start}
-use Rattle.crbsim.specs.Follows.{Follows}
+use Rattle.vt_world.specs.Follows.{WorldState, Follows}
 use Rattle.crbsim.specs.Run.{meanings, in_order, line_of, spelled}
-use Rattle.crbsim.specs.declared.session.Session.{Session}
 
 -- these lines are done and these bytes are left
 abbrev pub AreDone : {L : Type 0} → (List ℕ → Option L) → List ℕ → List ℕ → List (Option L) → Type 0
 AreDone grammar script rest done = meanings grammar script ≡ done ++ meanings grammar rest
 
--- the lines of the transcript are done, and the session follows the history
-pub record StandsAt (script rest : List ℕ) (t : Transcript) (session : Session) : Type 0 where
+-- the lines of the transcript are done, and the world follows the history
+pub record StandsAt (script rest : List ℕ) (t : Transcript) (world : WorldState) : Type 0 where
   pub lines : AreDone event_of script rest (in_order line_of t)
   pub run : IsRun start t
-  pub follows : Follows start (history t) session
+  pub follows : Follows start t world
 
--- the commands of these lines are done, and the session waits for the next
-pub record DrivesAt (script rest : List ℕ) (lines : List DriveLine) (session : Session) : Type 0 where
+-- the commands of these lines are done, and the world waits for the next
+pub record DrivesAt (script rest : List ℕ) (lines : List DriveLine) (world : WorldState) : Type 0 where
   pub done : AreDone drive_of script rest (in_order spelled lines)
   pub history : History
-  pub rest_at : IsAtRest start history session
+  pub rest_at : IsAtRest start history world
   pub past : executed start history ≡ past_of lines
 
 -- the output so far is written, but for what waits

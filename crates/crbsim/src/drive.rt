@@ -5,16 +5,17 @@ ghost use Rattle.tpm_frame.specs.Sizes.{IsWellSized};
 ghost use Rattle.vt_script.specs.Drive.{HasWellSized};
 ghost use Rattle.crb_history.specs.Base.{Base};
 ghost use Rattle.crb_history.specs.Event.{History};
-ghost use Rattle.crbsim.specs.Bus.{Calls, IsAtRest, Responds};
+ghost use Rattle.crbsim.specs.Calls.{Calls, IsAtRest, Responds};
 ghost use Rattle.crbsim.specs.Run.{IsShort, Writes, driven_by};
 
 use crate::output::{bad_line, finish, spill};
-use crate::session::Session;
+use crate::start::start;
 use crb_driver::Driver;
 use std::alloc::{AllocError, Global};
 use tpm_core::laws::answers_are_responses;
 use vt_base::{BUFFER_LENGTH, Sink, Status};
 use vt_script::{DriveLine, first_line, parse_drive, print_response};
+use vt_world::World;
 
 /// How often START is read before a command is given up. Four steps of the worker end each command.
 const POLLS: u32 = 8;
@@ -27,7 +28,7 @@ pub fn drive<K: Sink>(alloc: Global, script: &[u8], sink: &mut K) -> Status
     ensures read { result ≢ Status.ReadFault }
     ensures write_fault { result ≡ Status.WriteFault → Rose (K.faults sink.old) (K.faults sink.new) }
 {
-    let Ok(mut session) = Session::new(alloc) else {
+    let Ok(mut world) = start(alloc) else {
         return Status::Memory;
     };
     let mut waiting = Vec::new(alloc);
@@ -42,7 +43,7 @@ pub fn drive<K: Sink>(alloc: Global, script: &[u8], sink: &mut K) -> Status
         let Some(line) = found else {
             return bad_line(alloc, number, &waiting, sink);
         };
-        let Ok(()) = respond(alloc, &mut session, &line, &mut waiting) else {
+        let Ok(()) = respond(alloc, &mut world, &line, &mut waiting) else {
             return finish(sink, &waiting, &[], Status::Memory);
         };
         let Ok(()) = spill(&mut waiting, sink) else {
@@ -56,33 +57,33 @@ pub fn drive<K: Sink>(alloc: Global, script: &[u8], sink: &mut K) -> Status
 // Does the command of a line, and appends the text of its response.
 fn respond(
     alloc: Global,
-    session: &mut Session,
+    world: &mut World,
     line: &DriveLine,
     into: &mut Vec<u8>,
 ) -> Result<(), AllocError>
     requires sized { HasWellSized line.now }
-    requires rests { (b : Base) × (p : History) × IsAtRest b p session.old }
-    ensures ok { OnOk result ((b : Base) (p : History) → IsAtRest b p session.old
-        → Responds b p line.now into.old.items into.new.items session.new) }
+    requires rests { (b : Base) × (p : History) × IsAtRest b p world.old }
+    ensures ok { OnOk result ((b : Base) (p : History) → IsAtRest b p world.old
+        → Responds b p line.now into.old.items into.new.items world.new) }
     ensures err { OnErr result (into.new.items ≡ into.old.items) }
 {
     let DriveLine::Cmd(command) = line;
     let mut response = [0; BUFFER_LENGTH];
-    let count = call(session, command.as_slice(), &mut response);
+    let count = call(world, command.as_slice(), &mut response);
     print_response(alloc, &response[..count], into)
 }
 
 // Has a driver do a command, and gives the length of the answer, which stands at the front of `into`.
-fn call(session: &mut Session, command: &[u8], into: &mut [u8]) -> usize
+fn call(world: &mut World, command: &[u8], into: &mut [u8]) -> usize
     requires sized { IsWellSized command.now }
     requires room { BUFFER_LENGTH ≤ length into.old }
-    requires rests { (b : Base) × (p : History) × IsAtRest b p session.old }
-    ensures calls { (b : Base) (p : History) → IsAtRest b p session.old
-        → Calls b p command.now (take result into.new) session.new }
+    requires rests { (b : Base) × (p : History) × IsAtRest b p world.old }
+    ensures calls { (b : Base) (p : History) → IsAtRest b p world.old
+        → Calls b p command.now (take result into.new) world.new }
     ensures within { result ≤ length into.new }
 {
     answers_are_responses();
-    match Driver::new().call(session, command, into, POLLS) {
+    match Driver::new().call(world, command, into, POLLS) {
         Ok(count) => count,
         Err(_fault) => unreachable!(),
     }

@@ -1,13 +1,12 @@
-//! Runs scripts on one CRB device over one TPM, in one process: of guest accesses and worker steps, or of commands that a
-//! polling driver sends.
+//! Runs scripts on one host in one process, a CRB device over an emulator: of guest accesses, worker steps and faults of the
+//! link between the two, or of commands that a polling driver sends.
 #![tactic(auto)]
 
-mod bus;
 mod drive;
 mod output;
 mod replay;
 mod run;
-mod session;
+mod start;
 #[cfg(test)]
 mod tests;
 

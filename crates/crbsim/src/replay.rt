@@ -4,7 +4,7 @@ ghost use Rattle.vt_base.specs.Faults.{Rose};
 ghost use Rattle.crbsim.specs.Run.{IsShort, Writes, replayed};
 
 use crate::output::{bad_line, finish, spill};
-use crate::session::Session;
+use crate::start::start;
 use std::alloc::Global;
 use vt_base::{Sink, Status};
 use vt_script::{first_line, parse_line, print_reply};
@@ -17,7 +17,7 @@ pub fn replay<K: Sink>(alloc: Global, script: &[u8], sink: &mut K) -> Status
     ensures read { result ≢ Status.ReadFault }
     ensures write_fault { result ≡ Status.WriteFault → Rose (K.faults sink.old) (K.faults sink.new) }
 {
-    let Ok(mut session) = Session::new(alloc) else {
+    let Ok(mut world) = start(alloc) else {
         return Status::Memory;
     };
     let mut waiting = Vec::new(alloc);
@@ -29,7 +29,7 @@ pub fn replay<K: Sink>(alloc: Global, script: &[u8], sink: &mut K) -> Status
         let Some(line) = parse_line(text) else {
             return bad_line(alloc, number, &waiting, sink);
         };
-        let reply = session.step(&line);
+        let reply = world.step(&line);
         let Ok(()) = print_reply(alloc, &reply, &mut waiting) else {
             return finish(sink, &waiting, &[], Status::Memory);
         };

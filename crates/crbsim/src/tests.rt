@@ -80,6 +80,30 @@ fn scripts_are_answered(rt: HostRuntime) -> Result<(), Fail> {
         ("r ffd 4\n", Status::Script, "bad line 1\n"),
         ("work\n\nwork\n", Status::Script, "idle\nbad line 2\n"),
         ("reset \n", Status::Script, "bad line 1\n"),
+        ("ask\nask 1\n", Status::Script, "asked\nbad line 2\n"),
+        ("fail a 1\nfail c 1\n", Status::Script, "ok\nbad line 2\n"),
+        ("fail a 0\n", Status::Script, "bad line 1\n"),
+        ("fail a 01\n", Status::Script, "bad line 1\n"),
+        ("fail a 65536\n", Status::Script, "bad line 1\n"),
+        ("fail a\n", Status::Script, "bad line 1\n"),
+        // Nothing is under way that an ask could cancel.
+        ("ask\nwork\n", Status::Ok, "asked\nidle\n"),
+        // The link fails during an ask, and during a reset.
+        (
+            "fail a 1\nask\nask\nfail a 65535\nask\n",
+            Status::Ok,
+            "ok\nlink\nasked\nok\nasked\n",
+        ),
+        (
+            "fail a 2\nreset\nreset\nr 44 4\n",
+            Status::Ok,
+            "ok\nlink\nfailed device\n00000001\n",
+        ),
+        (
+            "fail a 2\nw 8 4 1\nw 40 4 1\nw 80 4 180\nw 84 4 c00\nw 88 4 4401\nw 4c 4 1\nwork\nwork\nwork\nr 44 4\nr 4c 4\nw 40 4 1\nr 44 4\nreset\n",
+            Status::Ok,
+            "ok\nok\nok\nok\nok\nok\nok\nclaim 1\nsent 1\nlost 1\n00000001\n00000000\nok\n00000001\nfailed device\n",
+        ),
     ];
     for (script, status, output) in cases {
         let (answer, written) = replayed(rt.alloc(), script.as_bytes())?;
@@ -158,6 +182,16 @@ fn a_command_is_cancelled_or_reset(rt: HostRuntime) -> Result<(), Fail> {
         (
             "work\nw 48 4 1\nwork\nwork\nwork\nr 88 4\nr 48 4\n",
             "claim 1\nok\nsent 1\nexec 1\ndone 1\n00000000\n00000001\n",
+        ),
+        // Cancelled while the TPM has it: the response says so.
+        (
+            "work\nwork\nask\nwork\nwork\nr 88 4\n",
+            "claim 1\nsent 1\nasked\nexec 1\ncancelled 1\n00000909\n",
+        ),
+        // Asked too early, and too late.
+        (
+            "ask\nwork\nask\nwork\nwork\nask\nwork\nr 88 4\n",
+            "asked\nclaim 1\nasked\nsent 1\nexec 1\nasked\ndone 1\n00000000\n",
         ),
         // A written 0 doesn't take a cancel back.
         (

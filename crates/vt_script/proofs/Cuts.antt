@@ -5,7 +5,7 @@ use Rattle.std.specs.List.{position, position_or_len, slice_split, onto_first}
 use Rattle.std.proofs.lemmas.List.{drop-drop}
 use Rattle.std.proofs.lemmas.List.Splits.{slice_split_first}
 use Rattle.std.proofs.lemmas.Bool.Decides.{nat_tests}
-use Rattle.vt_script.specs.Script.{parts_of, without_empty_end, lines_of, access_of, event_of_words, read_of, write_of}
+use Rattle.vt_script.specs.Script.{parts_of, without_empty_end, lines_of, words_event, event_of_words, read_of, write_of, fail_of}
 use Rattle.vt_script.specs.Drive.{command_of}
 
 pub parts-Some : (separator : ℕ) (xs : List ℕ) (at : ℕ) → position (λ b. b == separator) xs ≡ Some at → parts_of separator xs ≡ take at xs ∷ parts_of separator (drop (at + 1) xs)
@@ -57,7 +57,7 @@ lines-last [] some cut = absurd (omega arith)
 lines-last (x ∷ xs) some cut = ap without_empty_end cut
 
 -- a name with more words after it
-pub event_of_words-more : (name rest : List ℕ) → event_of_words (name ∷ parts_of 32 rest) ≡ access_of name (parts_of 32 rest)
+pub event_of_words-more : (name rest : List ℕ) → event_of_words (name ∷ parts_of 32 rest) ≡ words_event name (parts_of 32 rest)
 event_of_words-more name rest = let more = parts_some 32 rest in rw more.2 refl
 
 -- `r` has two words after it
@@ -67,6 +67,10 @@ read_of-more first second rest = let more = parts_some 32 rest in rw more.2 refl
 -- `w` has three words after it
 pub write_of-more : (first second third rest : List ℕ) → write_of (first ∷ second ∷ third ∷ parts_of 32 rest) ≡ None
 write_of-more first second third rest = let more = parts_some 32 rest in rw more.2 refl
+
+-- `fail` has two words after it
+pub fail_of-more : (first second rest : List ℕ) → fail_of (first ∷ second ∷ parts_of 32 rest) ≡ None
+fail_of-more first second rest = let more = parts_some 32 rest in rw more.2 refl
 
 -- `cmd` has one word after it
 pub command_of-more : (first rest : List ℕ) → command_of (first ∷ parts_of 32 rest) ≡ None

@@ -1,14 +1,27 @@
 -- Numbers by their hexadecimal digits.
 use Rattle.std.proofs.Common.{◌≡◌, ℕ, zero, suc, ◌+◌, ◌-◌, ◌*◌, ◌/◌, ◌%◌, ◌^◌, ◌<◌, ◌≤◌, List, [], ◌∷◌, ◌++◌, refl, ap, ◌∙◌, append_assoc, arith, lit<}
-use Rattle.std.proofs.Math.Nat.{pow-le-pow_right, pow-succ'}
+use Rattle.std.proofs.Math.Nat.{pow-le-pow_left, pow-le-pow_right, pow-succ', mul-le-mul_right, suc-mul}
+use Rattle.std.proofs.lemmas.Grind.{pow_more}
 use Rattle.std.proofs.lemmas.Nat.{pow-add}
 use Rattle.vt_script.specs.Replies.{hex_digit, hex_digits}
 
-pub power16_fits : (n : ℕ) → n < 16 → 16 ^ n ≤ 16 ^ 15
-power16_fits n few = let most : n ≤ 15 = omega arith in pow-le-pow_right (lit< tt) most
+-- a number of n digits with one more digit has n + 1 digits
+pub number_grows : (number base digit n : ℕ) → number < base ^ n → digit < base → number * base + digit < base ^ (n + 1)
+number_grows number base digit n few below =
+    let more : suc number * base ≤ base ^ n * base = mul-le-mul_right base few in
+    let power : base ^ (n + 1) ≡ base ^ n * base = pow_more base n in
+    let same : suc number * base ≡ number * base + base = suc-mul number base in
+    omega arith
 
-pub power16_grows : (n m : ℕ) → n ≤ m → 16 ^ n ≤ 16 ^ m
-power16_grows n m few = pow-le-pow_right (lit< tt) few
+-- sixteen digits in a base of sixteen at most fit eight bytes
+pub digits_fit : (base n : ℕ) → 1 ≤ base → base ≤ 16 → n ≤ 16 → base ^ n ≤ 16 ^ 16
+digits_fit base n some small few =
+    let in_base : base ^ n ≤ 16 ^ n = pow-le-pow_left small n in
+    let in_place : 16 ^ n ≤ 16 ^ 16 = pow-le-pow_right (lit< tt) few in
+    omega arith
+
+pub power_grows : (base n m : ℕ) → 1 ≤ base → n ≤ m → base ^ n ≤ base ^ m
+power_grows base n m some few = pow-le-pow_right some few
 
 pub power256 : (n : ℕ) → 16 ^ (2 * n) ≡ 256 ^ n
 power256 zero = refl

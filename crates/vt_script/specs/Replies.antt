@@ -5,7 +5,7 @@ use lib.Chars.{codes}
 use Rattle.crb_regs.specs.Access.{IsAccessSize}
 use Rattle.vt_script.specs.declared.parts.TheConstants.{LINE_FEED}
 use Rattle.vt_script.specs.declared.reply.Reply.{Reply}
-use Rattle.vt_script.specs.declared.reply.Reply.TheVariants.{Value, Accepted, Idle, Claim, Sent, Exec, Done, Cancelled, NotYet, Reset}
+use Rattle.vt_script.specs.declared.reply.Reply.TheVariants.{Value, Accepted, Idle, Claim, Sent, Exec, Done, Cancelled, Lost, Link, Asked, FailedDevice, NotYet, Reset}
 
 -- the lower-case hexadecimal digit of a number below 16
 abbrev pub hex_digit : ℕ → ℕ
@@ -34,6 +34,10 @@ reply_text (Sent number) = numbered (codes "sent ") number
 reply_text (Exec number) = numbered (codes "exec ") number
 reply_text (Done number) = numbered (codes "done ") number
 reply_text (Cancelled number) = numbered (codes "cancelled ") number
+reply_text (Lost number) = numbered (codes "lost ") number
+reply_text Link = ended (codes "link")
+reply_text Asked = ended (codes "asked")
+reply_text FailedDevice = ended (codes "failed device")
 reply_text NotYet = ended (codes "not yet")
 reply_text Reset = ended (codes "reset")
 

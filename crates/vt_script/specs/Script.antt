@@ -1,13 +1,15 @@
 -- The lines of a script (own).
-use Rattle.std.specs.Prelude.{ℕ, ◌+◌, ◌-◌, ◌*◌, ◌&&◌, ◌==◌, nat_lt, nat_le, if◌then◌else◌, List, [], ◌∷◌, length, Option, Some, None, option_and_then}
+use Rattle.std.specs.Prelude.{ℕ, ◌+◌, ◌-◌, ◌*◌, ◌&&◌, ◌||◌, ◌==◌, nat_lt, nat_le, if◌then◌else◌, List, [], ◌∷◌, length, Option, Some, None, option_and_then, slice_index}
 use Rattle.std.specs.List.{slice_split}
 use Rattle.std.specs.Str.{bytes_eq}
 use lib.Chars.{codes}
 use Rattle.crb_regs.specs.declared.access.TheConstants.{PAGE_SIZE}
 use Rattle.vt_script.specs.declared.parts.TheConstants.{SPACE, LINE_FEED}
-use Rattle.vt_script.specs.declared.event.TheConstants.{OFFSET_DIGITS, BYTE_DIGITS}
+use Rattle.move_codec.specs.declared.names.HostName.{HostName}
+use Rattle.move_codec.specs.declared.names.HostName.TheVariants.{A}
+use Rattle.vt_script.specs.declared.event.TheConstants.{OFFSET_DIGITS, BYTE_DIGITS, CALL_DIGITS, FIRST_CALL, LAST_CALL, HEXADECIMAL, DECIMAL}
 use Rattle.vt_script.specs.declared.event.Event.{Event}
-use Rattle.vt_script.specs.declared.event.Event.TheVariants.{Access, Work, Reset}
+use Rattle.vt_script.specs.declared.event.Event.TheVariants.{Access, Work, Ask, Reset, Fail}
 
 -- the parts between separators; there is one more of them than separators
 abbrev pub parts_of : ℕ → List ℕ → List (List ℕ)
@@ -31,14 +33,26 @@ digit_of b =
     else (if nat_le 65 b && nat_le b 70 then Some (b - 55)
     else None))
 
--- the number that hexadecimal digits spell after an earlier number
-abbrev pub number_after : ℕ → List ℕ → Option ℕ
-number_after number [] = Some number
-number_after number (b ∷ bs) = option_and_then (λ digit. number_after (number * 16 + digit) bs) (digit_of b)
+-- the value of a digit in this base, which is 16 at most
+abbrev pub digit_in : ℕ → ℕ → Option ℕ
+digit_in base b = option_and_then (λ digit. if nat_lt digit base then Some digit else None) (digit_of b)
 
--- the number that at least one and at most so many hexadecimal digits spell
-abbrev pub number_of : ℕ → List ℕ → Option ℕ
-number_of most word = if nat_lt 0 (length word) && nat_le (length word) most then number_after 0 word else None
+-- the number that digits in this base spell after an earlier number
+abbrev pub number_after : ℕ → ℕ → List ℕ → Option ℕ
+number_after base number [] = Some number
+number_after base number (b ∷ bs) = option_and_then (λ digit. number_after base (number * base + digit) bs) (digit_in base b)
+
+-- the number that at least one and at most so many digits in this base spell
+abbrev pub number_of : ℕ → ℕ → List ℕ → Option ℕ
+number_of base most word = if nat_lt 0 (length word) && nat_le (length word) most then number_after base 0 word else None
+
+-- the number of a call, in decimal without a leading zero
+abbrev pub call_of : List ℕ → Option ℕ
+call_of word = option_and_then (λ n. if slice_index word 0 == 48 || nat_lt n FIRST_CALL || nat_lt LAST_CALL n then None else Some n) (number_of DECIMAL CALL_DIGITS word)
+
+-- the host that a word names
+abbrev pub host_of : List ℕ → Option HostName
+host_of word = if bytes_eq word (codes "a") then Some A else None
 
 -- the size that a word names
 abbrev pub size_of : List ℕ → Option ℕ
@@ -66,34 +80,41 @@ write_event offset size value =
 -- what the words after `r` ask for: offset and size
 abbrev pub read_of : List (List ℕ) → Option Event
 read_of (offset ∷ size ∷ []) =
-    option_and_then (λ at. option_and_then (λ n. read_event at n) (size_of size)) (number_of OFFSET_DIGITS offset)
+    option_and_then (λ at. option_and_then (λ n. read_event at n) (size_of size)) (number_of HEXADECIMAL OFFSET_DIGITS offset)
 read_of _ = None
 
 -- what the words after `w` ask for: offset, size and value
 abbrev pub write_of : List (List ℕ) → Option Event
 write_of (offset ∷ size ∷ value ∷ []) =
-    option_and_then (λ at. option_and_then (λ n. option_and_then (λ v. write_event at n v) (number_of (BYTE_DIGITS * n) value)) (size_of size)) (number_of OFFSET_DIGITS offset)
+    option_and_then (λ at. option_and_then (λ n. option_and_then (λ v. write_event at n v) (number_of HEXADECIMAL (BYTE_DIGITS * n) value)) (size_of size)) (number_of HEXADECIMAL OFFSET_DIGITS offset)
 write_of _ = None
+
+-- what the words after `fail` ask for: a host, and the number of a call
+abbrev pub fail_of : List (List ℕ) → Option Event
+fail_of (host ∷ call ∷ []) = option_and_then (λ h. option_and_then (λ k. Some (Fail h k)) (call_of call)) (host_of host)
+fail_of _ = None
 
 -- what a line of one word asks for
 abbrev pub word_event : List ℕ → Option Event
 word_event word =
     if bytes_eq word (codes "work") then Some Work
+    else (if bytes_eq word (codes "ask") then Some Ask
     else (if bytes_eq word (codes "reset") then Some Reset
-    else None)
+    else None))
 
 -- what a line of a name and more words asks for
-abbrev pub access_of : List ℕ → List (List ℕ) → Option Event
-access_of name words =
+abbrev pub words_event : List ℕ → List (List ℕ) → Option Event
+words_event name words =
     if bytes_eq name (codes "r") then read_of words
     else (if bytes_eq name (codes "w") then write_of words
-    else None)
+    else (if bytes_eq name (codes "fail") then fail_of words
+    else None))
 
 -- what the words of a line ask for
 abbrev pub event_of_words : List (List ℕ) → Option Event
 event_of_words [] = None
 event_of_words (word ∷ []) = word_event word
-event_of_words (name ∷ first ∷ words) = access_of name (first ∷ words)
+event_of_words (name ∷ first ∷ words) = words_event name (first ∷ words)
 
 -- what a line asks for; `None` where it isn't in the grammar
 unfoldable pub event_of : List ℕ → Option Event

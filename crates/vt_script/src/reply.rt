@@ -26,6 +26,14 @@ pub enum Reply {
     Done(u64),
     /// The command was cancelled before it was executed.
     Cancelled(u64),
+    /// The link to the emulator failed, and nobody knows whether the command was executed.
+    Lost(u64),
+    /// The link to the emulator failed.
+    Link,
+    /// The emulator was asked to cancel.
+    Asked,
+    /// Nothing was done, since the device is lost.
+    FailedDevice,
     /// No reset was made, since the worker has a claimed command.
     NotYet,
     /// The device was reset.
@@ -104,6 +112,10 @@ pub fn print_reply(alloc: Global, reply: &Reply, into: &mut Vec<u8>) -> Result<(
         Reply::Exec(number) => push_text(&format!(in alloc; "exec {number}\n")?, into),
         Reply::Done(number) => push_text(&format!(in alloc; "done {number}\n")?, into),
         Reply::Cancelled(number) => push_text(&format!(in alloc; "cancelled {number}\n")?, into),
+        Reply::Lost(number) => push_text(&format!(in alloc; "lost {number}\n")?, into),
+        Reply::Link => into.extend_from_slice(b"link\n"),
+        Reply::Asked => into.extend_from_slice(b"asked\n"),
+        Reply::FailedDevice => into.extend_from_slice(b"failed device\n"),
         Reply::NotYet => into.extend_from_slice(b"not yet\n"),
         Reply::Reset => into.extend_from_slice(b"reset\n"),
     }

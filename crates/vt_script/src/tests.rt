@@ -1,6 +1,7 @@
 ghost use Rattle.vt_script.specs.Replies.{IsPrintable};
 
 use super::*;
+use move_codec::HostName;
 use std::alloc::{AllocError, Global};
 use std::test::Fail;
 use vt_base::Bytes;
@@ -45,6 +46,27 @@ fn accesses(rt: HostRuntime) {
 fn single_words(rt: HostRuntime) {
     assert!(rt; matches!(parse_line(b"work"), Some(Event::Work)));
     assert!(rt; matches!(parse_line(b"reset"), Some(Event::Reset)));
+    assert!(rt; matches!(parse_line(b"ask"), Some(Event::Ask)));
+}
+
+// The host and the number of the call that a line orders to fail.
+fn order_of(line: &[u8]) -> Option<(HostName, u32)> {
+    let Event::Fail { host, call } = parse_line(line)? else {
+        return None;
+    };
+    Some((host, call))
+}
+
+#[test]
+fn orders(rt: HostRuntime) {
+    for (line, call) in [
+        (b"fail a 1".as_slice(), 1),
+        (b"fail a 10".as_slice(), 10),
+        (b"fail a 9999".as_slice(), 9_999),
+        (b"fail a 65535".as_slice(), 65_535),
+    ] {
+        assert!(rt; order_of(line) == Some((HostName::A, call)), "at {line:?}");
+    }
 }
 
 #[test]
@@ -57,6 +79,22 @@ fn not_in_the_grammar(rt: HostRuntime) {
         b"work 1".as_slice(),
         b"Work".as_slice(),
         b"work\r".as_slice(),
+        b"ask ".as_slice(),
+        b"Ask".as_slice(),
+        b"fail".as_slice(),
+        b"fail a".as_slice(),
+        b"fail a ".as_slice(),
+        b"fail a 0".as_slice(),
+        b"fail a 01".as_slice(),
+        b"fail a 65536".as_slice(),
+        b"fail a 100000".as_slice(),
+        b"fail a a".as_slice(),
+        b"fail a -1".as_slice(),
+        b"fail a 1 ".as_slice(),
+        b"fail a 1 1".as_slice(),
+        b"fail  a 1".as_slice(),
+        b"fail b 1".as_slice(),
+        b"fail A 1".as_slice(),
         b"reset ".as_slice(),
         b" reset".as_slice(),
         b"reset 1".as_slice(),
@@ -206,6 +244,10 @@ fn texts(rt: HostRuntime) -> Result<(), Fail> {
             b"cancelled 18446744073709551615\n"
         )?
     );
+    assert!(rt; prints(alloc, Reply::Lost(7), b"lost 7\n")?);
+    assert!(rt; prints(alloc, Reply::Link, b"link\n")?);
+    assert!(rt; prints(alloc, Reply::Asked, b"asked\n")?);
+    assert!(rt; prints(alloc, Reply::FailedDevice, b"failed device\n")?);
     assert!(rt; prints(alloc, Reply::NotYet, b"not yet\n")?);
     assert!(rt; prints(alloc, Reply::Reset, b"reset\n")?);
     Ok(())

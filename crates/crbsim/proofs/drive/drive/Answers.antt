@@ -13,7 +13,7 @@ returns-in_default-clause-writes g c =
 
 pub loop-rest-init : goal.loop-rest-init
 loop-rest-init g c = record {
-  done = ([], drives-start c.args.script.now c.in-Ok.session c.in-Ok.ensures, record { written = []; appends = Appends-nothing _; whole = c.new-waiting.ensures.items }, omega arith);
+  done = ([], drives-start c.args.script.now c.in-Ok.world c.in-Ok.ensures, record { written = []; appends = Appends-nothing _; whole = c.new-waiting.ensures.items }, omega arith);
   count = omega arith;
   later = omega arith;
 }
@@ -21,35 +21,35 @@ loop-rest-init g c = record {
 pub returns-in_default-parse_drive-clause-writes : goal.returns-in_default-parse_drive-clause-writes
 returns-in_default-parse_drive-clause-writes g c =
     let done = c.loop-rest.invariant.done in
-    writes-memory (driven_by c.args.script.now) _ _ _ (length done.0) c.loop-rest.waiting.items (driven start.tpm done.0) c.requires (drives-gives c.args.script.now c.loop-rest.rest.now done.0 c.loop-rest.session done.1) done.2 c.finish.result
+    writes-memory (driven_by c.args.script.now) _ _ _ (length done.0) c.loop-rest.waiting.items (driven start.tpm done.0) c.requires (drives-gives c.args.script.now c.loop-rest.rest.now done.0 c.loop-rest.world done.1) done.2 c.finish.result
     (rw c.deref.ensures.value at c.finish.ensures.writes)
 
 pub returns-in_default-found-clause-writes : goal.returns-in_default-found-clause-writes
 returns-in_default-found-clause-writes g c =
     let done = c.loop-rest.invariant.done in
-    writes-bad (driven_by c.args.script.now) _ _ _ (length done.0) c.loop-rest.waiting.items (driven start.tpm done.0) c.requires (drives-gives c.args.script.now c.loop-rest.rest.now done.0 c.loop-rest.session done.1) done.2 _ c.bad_line.result
-    (drives-bad c.args.script.now c.loop-rest.rest.now done.0 c.loop-rest.session c.first_line.result.0.now c.first_line.result.1.now done.1 c.first_line.ensures.lines (sym c.in-Ok-parse_drive.ensures.line ∙ c.in_default-found.is))
+    writes-bad (driven_by c.args.script.now) _ _ _ (length done.0) c.loop-rest.waiting.items (driven start.tpm done.0) c.requires (drives-gives c.args.script.now c.loop-rest.rest.now done.0 c.loop-rest.world done.1) done.2 _ c.bad_line.result
+    (drives-bad c.args.script.now c.loop-rest.rest.now done.0 c.loop-rest.world c.first_line.result.0.now c.first_line.result.1.now done.1 c.first_line.ensures.lines (sym c.in-Ok-parse_drive.ensures.line ∙ c.in_default-found.is))
     (omega (arith, done.3)) (rw c.deref-in_default-found.ensures.value at c.bad_line.ensures.tells)
 
 pub returns-in_default-respond-clause-writes : goal.returns-in_default-respond-clause-writes
 returns-in_default-respond-clause-writes g c =
     let done = c.loop-rest.invariant.done in
     let kept : c.deref-in_default-respond.result.now ≡ c.loop-rest.waiting.items = c.deref-in_default-respond.ensures.value ∙ c.in_default-respond.ensures.err in
-    writes-memory (driven_by c.args.script.now) _ _ _ (length done.0) c.loop-rest.waiting.items (driven start.tpm done.0) c.requires (drives-gives c.args.script.now c.loop-rest.rest.now done.0 c.loop-rest.session done.1) done.2 c.finish-in_default-respond.result
+    writes-memory (driven_by c.args.script.now) _ _ _ (length done.0) c.loop-rest.waiting.items (driven start.tpm done.0) c.requires (drives-gives c.args.script.now c.loop-rest.rest.now done.0 c.loop-rest.world done.1) done.2 c.finish-in_default-respond.result
     (rw kept at c.finish-in_default-respond.ensures.writes)
 
 pub returns-in_default-spill-clause-writes : goal.returns-in_default-spill-clause-writes
 returns-in_default-spill-clause-writes g c =
     let done = c.loop-rest.invariant.done in
-    let further = drives-more c.args.script.now c.loop-rest.rest.now done.0 c.loop-rest.session c.respond.new.session c.first_line.result.0.now c.first_line.result.1.now c.in-Some.line c.loop-rest.waiting.items c.respond.new.into.items done.1 c.first_line.ensures.lines (sym c.in-Ok-parse_drive.ensures.line ∙ c.in-Some.is) (c.in-Ok-respond.ensures.ok start done.1.history done.1.rest_at) in
+    let further = drives-more c.args.script.now c.loop-rest.rest.now done.0 c.loop-rest.world c.respond.new.world c.first_line.result.0.now c.first_line.result.1.now c.in-Some.line c.loop-rest.waiting.items c.respond.new.into.items done.1 c.first_line.ensures.lines (sym c.in-Ok-parse_drive.ensures.line ∙ c.in-Some.is) (c.in-Ok-respond.ensures.ok start done.1.history done.1.rest_at) in
     let more = waits-to _ _ c.loop-rest.waiting.items c.respond.new.into.items further.response (driven start.tpm done.0) (driven start.tpm (c.in-Some.line ∷ done.0)) done.2 further.appended further.whole in
     writes-unspilt (driven_by c.args.script.now) _ _ _ _ c.respond.new.into.items (driven start.tpm (c.in-Some.line ∷ done.0)) c.requires
-    (drives-gives c.args.script.now c.first_line.result.1.now (c.in-Some.line ∷ done.0) c.respond.new.session further.drives) more c.in_default-spill.ensures.err
+    (drives-gives c.args.script.now c.first_line.result.1.now (c.in-Some.line ∷ done.0) c.respond.new.world further.drives) more c.in_default-spill.ensures.err
 
 pub loop-rest-preserved : goal.loop-rest-preserved
 loop-rest-preserved g c =
     let done = c.loop-rest.invariant.done in
-    let further = drives-more c.args.script.now c.loop-rest.rest.now done.0 c.loop-rest.session c.respond.new.session c.first_line.result.0.now c.first_line.result.1.now c.in-Some.line c.loop-rest.waiting.items c.respond.new.into.items done.1 c.first_line.ensures.lines (sym c.in-Ok-parse_drive.ensures.line ∙ c.in-Some.is) (c.in-Ok-respond.ensures.ok start done.1.history done.1.rest_at) in
+    let further = drives-more c.args.script.now c.loop-rest.rest.now done.0 c.loop-rest.world c.respond.new.world c.first_line.result.0.now c.first_line.result.1.now c.in-Some.line c.loop-rest.waiting.items c.respond.new.into.items done.1 c.first_line.ensures.lines (sym c.in-Ok-parse_drive.ensures.line ∙ c.in-Some.is) (c.in-Ok-respond.ensures.ok start done.1.history done.1.rest_at) in
     let more = waits-to _ _ c.loop-rest.waiting.items c.respond.new.into.items further.response (driven start.tpm done.0) (driven start.tpm (c.in-Some.line ∷ done.0)) done.2 further.appended further.whole in
     record {
       done = (c.in-Some.line ∷ done.0, further.drives, waits-less _ _ _ _ _ _ more c.in-Ok-spill.ensures.ok, omega (arith, done.3));
@@ -61,6 +61,6 @@ pub returns-clause-writes : goal.returns-clause-writes
 returns-clause-writes g c =
     let done = c.loop-rest.invariant.done in
     let end : length c.loop-rest.rest.now ≡ 0 = search rules in
-    writes-all (driven_by c.args.script.now) _ _ _ (length done.0) c.loop-rest.waiting.items (driven start.tpm done.0) c.requires (drives-gives c.args.script.now c.loop-rest.rest.now done.0 c.loop-rest.session done.1) done.2 c.finish-2.result
-    (drives-all c.args.script.now c.loop-rest.rest.now done.0 c.loop-rest.session done.1 (empty c.loop-rest.rest.now end))
+    writes-all (driven_by c.args.script.now) _ _ _ (length done.0) c.loop-rest.waiting.items (driven start.tpm done.0) c.requires (drives-gives c.args.script.now c.loop-rest.rest.now done.0 c.loop-rest.world done.1) done.2 c.finish-2.result
+    (drives-all c.args.script.now c.loop-rest.rest.now done.0 c.loop-rest.world done.1 (empty c.loop-rest.rest.now end))
     (rw c.deref-2.ensures.value at c.finish-2.ensures.writes)

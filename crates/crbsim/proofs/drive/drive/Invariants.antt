@@ -8,7 +8,7 @@ use Rattle.crbsim.proofs.drive.drive.Given as goal
 -- the lines that are done have their responses written, or waiting
 abbrev pub invariant-loop-rest : goal.invariant-loop-rest
 invariant-loop-rest g l = record {
-  done : (lines : List DriveLine) × DrivesAt l.script l.rest lines l.session × HasWritten (g.K.Sink.written l.fn.sink) (g.K.Sink.written l.sink) l.waiting.items (driven start.tpm lines) × (l.number ≡ length lines);
+  done : (lines : List DriveLine) × DrivesAt l.script l.rest lines l.world × HasWritten (g.K.Sink.written l.fn.sink) (g.K.Sink.written l.sink) l.waiting.items (driven start.tpm lines) × (l.number ≡ length lines);
   count : l.number + length l.rest ≤ length l.script;
   later : g.K.Sink.faults l.fn.sink ≤ g.K.Sink.faults l.sink;
 }

@@ -7,7 +7,7 @@ use Rattle.crbsim.proofs.replay.replay.Given as goal
 -- the lines that are done have their replies written, or waiting
 abbrev pub invariant-loop-rest : goal.invariant-loop-rest
 invariant-loop-rest g l = record {
-  done : (t : Transcript) × StandsAt l.script l.rest t l.session × HasWritten (g.K.Sink.written l.fn.sink) (g.K.Sink.written l.sink) l.waiting.items (texts t) × (l.number ≡ length t);
+  done : (t : Transcript) × StandsAt l.script l.rest t l.world × HasWritten (g.K.Sink.written l.fn.sink) (g.K.Sink.written l.sink) l.waiting.items (texts t) × (l.number ≡ length t);
   count : l.number + length l.rest ≤ length l.script;
   later : g.K.Sink.faults l.fn.sink ≤ g.K.Sink.faults l.sink;
 }

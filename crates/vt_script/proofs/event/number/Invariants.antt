@@ -5,6 +5,6 @@ use Rattle.vt_script.proofs.event.number.Given as goal
 -- the number so far and the digits that are left spell the whole
 abbrev pub invariant-loop-byte : goal.invariant-loop-byte
 invariant-loop-byte l = record {
-  rest : number_after l.number (drop l.byte-index l.word) ≡ number_after 0 l.word;
-  below : l.number < 16 ^ l.byte-index;
+  rest : number_after l.base l.number (drop l.byte-index l.word) ≡ number_after l.base 0 l.word;
+  below : l.number < l.base ^ l.byte-index;
 }

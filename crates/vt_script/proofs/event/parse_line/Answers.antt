@@ -7,4 +7,4 @@ pub returns-in-Some : goal.returns-in-Some
 unfolding event_of
 returns-in-Some c =
     let parts = rw c.in-Some.is at c.first_part.ensures.parts in
-    rw (parts, c.parse_access.ensures) (sym (event_of_words-more c.first_part.result.0.now c.in-Some.words.now))
+    rw (parts, c.parse_words.ensures) (sym (event_of_words-more c.first_part.result.0.now c.in-Some.words.now))

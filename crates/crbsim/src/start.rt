@@ -1,0 +1,16 @@
+//! The host on which a script begins.
+ghost use Rattle.std.specs.Prelude.{[], IfOk};
+ghost use Rattle.vt_world.specs.Follows.{Follows};
+ghost use Rattle.crbsim.specs.Start.{start};
+
+use ctrl_client::LARGEST_PIECE;
+use std::alloc::{AllocError, Global};
+use tpm_core::SEED_SIZE;
+use vt_world::World;
+
+/// A host after a reset, whose TPM has a seed of zeros and was powered on once.
+pub fn start(alloc: Global) -> Result<World, AllocError>
+    ensures { IfOk result (Follows start []) }
+{
+    World::new(alloc, [0; SEED_SIZE], LARGEST_PIECE as u32)
+}

@@ -1,0 +1,176 @@
+-- A line of the script as an access of a driver.
+use Rattle.std.proofs.Common.{◌≡◌, ◌≢◌, ℕ, ◌+◌, Bool, true, false, ◌&&◌, ◌∷◌, refl, ap, sym, ◌∙◌, subst, Some, None, arith}
+use Rattle.std.specs.Prelude.{◌==◌, Option, IsSome, is_none, if◌then◌else◌}
+use Rattle.std.proofs.lemmas.Bool.Decides.{nat_tests}
+use Rattle.crb_regs.specs.Access.{Access}
+use Rattle.crb_regs.specs.Registers.{is_executing}
+use Rattle.crb_history.specs.Base.{Base}
+use Rattle.crb_history.specs.Event.{History}
+use Rattle.crb_history.specs.Event.Event.{Read, Write}
+use Rattle.crb_history.specs.Device.{phase_of, stage_of, Stage}
+use Rattle.crb_history.specs.Device.Stage.{Waiting, Claimed, HasSent, HasRun}
+use Rattle.crb_history.specs.Legal.{Legal}
+use Rattle.crb_history.specs.Replies.{Transcript, Turning, turning_of, turn, turn_at, history, order_of, call_count, reaches, fails_within, with_event, order_after, is_fault}
+use Rattle.vt_script.specs.declared.event.Event.{Event as Line}
+use Rattle.vt_script.specs.declared.event.Event.TheVariants.{Access as AccessLine, Work}
+use Rattle.vt_script.specs.declared.reply.Reply.{Reply}
+use Rattle.vt_script.specs.declared.reply.Reply.TheVariants as replied
+use Rattle.vt_world.specs.Bus.{IsAfter, IsReady, Leads, after_access, after_turn, event_by, none_fails}
+use Rattle.vt_world.specs.Follows.{WorldState, Follows, Steps, exchange}
+
+is_there : (at : ℕ) → at ≡ 0x4C → (at == 0x4C) ≡ true
+is_there at here = rw here refl
+
+is_elsewhere : (at : ℕ) → at ≢ 0x4C → (at == 0x4C) ≡ false
+is_elsewhere at away = grind (arith, nat_tests)
+
+after-elsewhere : (b : Base) (p : History) (a : Access) (value : ℕ) (write : Option ℕ) (start : Bool) → write ≡ None → start ≡ false
+    → Read a value ∷ p ≡ (if is_none write && start then after_turn b (event_by write a value ∷ p) else event_by write a value ∷ p)
+after-elsewhere b p a value write start none away = rw (none, away) refl
+
+after-start : (b : Base) (p : History) (a : Access) (value : ℕ) (write : Option ℕ) (start : Bool) → write ≡ None → start ≡ true
+    → after_turn b (Read a value ∷ p) ≡ (if is_none write && start then after_turn b (event_by write a value ∷ p) else event_by write a value ∷ p)
+after-start b p a value write start none here = rw (none, here) refl
+
+-- ---- no order stands
+
+-- a line that is no order, and its reply, leave none
+still_none : (order : Option ℕ) (fault : Bool) → order ≡ None → (if fault then None else order) ≡ None
+still_none order true is = refl
+still_none order false is = is
+
+-- so no call fails
+never : (b : Base) (t : Transcript) → order_of t ≡ None → (calls : ℕ) → fails_within b t calls ≡ false
+never b t none calls = ap (λ (o : Option ℕ). reaches o (call_count b t + calls)) none
+
+-- and a step of the worker is answered as where none does
+turn-none : (b : Base) (t : Transcript) → order_of t ≡ None → turn b (history b t) (fails_within b t) ≡ turn b (history b t) none_fails
+turn-none b t none = go (is_executing (phase_of b (history b t))) (stage_of b (history b t))
+  where
+    by_stage : (stage : Stage) → turn_at stage (turning_of b (history b t)) (fails_within b t) ≡ turn_at stage (turning_of b (history b t)) none_fails
+    by_stage Waiting = refl
+    by_stage Claimed = rw (never b t none 1) refl
+    by_stage HasSent = rw (never b t none 1) refl
+    by_stage HasRun = rw (never b t none 1) refl
+
+    go : (executing : Bool) (stage : Stage) → (if executing then turn_at stage (turning_of b (history b t)) (fails_within b t) else replied.Idle) ≡ (if executing then turn_at stage (turning_of b (history b t)) none_fails else replied.Idle)
+    go false stage = refl
+    go true stage = by_stage stage
+
+-- what a step of the worker leaves, by its reply alone
+turned : (b : Base) (t : Transcript) (reply : Reply) → with_event (Some Work) reply (fails_within b t) (history b t) ≡ with_event (Some Work) reply none_fails (history b t)
+turned b t (replied.Value v s) = refl
+turned b t replied.Accepted = refl
+turned b t replied.Idle = refl
+turned b t (replied.Claim n) = refl
+turned b t (replied.Sent n) = refl
+turned b t (replied.Exec n) = refl
+turned b t (replied.Done n) = refl
+turned b t (replied.Cancelled n) = refl
+turned b t (replied.Lost n) = refl
+turned b t replied.Link = refl
+turned b t replied.Asked = refl
+turned b t replied.FailedDevice = refl
+turned b t replied.NotYet = refl
+turned b t replied.Reset = refl
+
+-- ---- the accesses
+
+-- after a read
+read-after : (b : Base) (p : History) (old new : WorldState) (a : Access) (value size : ℕ)
+    → ((t : Transcript) → Follows b t old → Steps b t (AccessLine a) (replied.Value value size) new)
+    → IsAfter b p old → IsAfter b (Read a value ∷ p) new
+read-after b p old new a value size steps after =
+    let t : Transcript = after.transcript in
+    let one = steps t after.follows in
+    let told : Read a value ∷ history b t ≡ Read a value ∷ p = ap (λ (h : History). Read a value ∷ h) after.told in
+    record {
+      transcript = exchange (AccessLine a) (replied.Value value size) ∷ t;
+      follows = one.follows;
+      unordered = after.unordered;
+      told = told;
+      legal = subst (Legal b) told (one.legal (subst (Legal b) (sym after.told) after.legal));
+    }
+
+-- after a step of the worker
+turn-after : (b : Base) (p : History) (old new : WorldState) (reply : Reply)
+    → ((t : Transcript) → Follows b t old → Steps b t Work reply new)
+    → IsAfter b p old → IsAfter b (after_turn b p) new
+turn-after b p old new reply steps after =
+    let t : Transcript = after.transcript in
+    let one = steps t after.follows in
+    let is : reply ≡ turn b (history b t) none_fails = one.answers ∙ turn-none b t after.unordered in
+    let told : with_event (Some Work) reply (fails_within b t) (history b t) ≡ after_turn b p =
+    turned b t reply ∙ ap (λ (r : Reply). with_event (Some Work) r none_fails (history b t)) is ∙ ap (after_turn b) after.told in
+    record {
+      transcript = exchange Work reply ∷ t;
+      follows = one.follows;
+      unordered = still_none (order_of t) (is_fault reply) after.unordered;
+      told = told;
+      legal = subst (Legal b) told (one.legal (subst (Legal b) (sym after.told) after.legal));
+    }
+
+-- a read elsewhere than at START
+pub read-leads : (old new : WorldState) (a : Access) (value size : ℕ) → a.write ≡ None → a.offset ≢ 0x4C
+    → ((b : Base) (t : Transcript) → Follows b t old → Steps b t (AccessLine a) (replied.Value value size) new)
+    → Leads old a value new
+read-leads old new a value size none away steps = λ b p after.
+    subst (λ (h : History). IsAfter b h new) (after-elsewhere b p a value a.write (a.offset == 0x4C) none (is_elsewhere a.offset away)) (read-after b p old new a value size (steps b) after)
+
+-- a read of START, and a step of the worker
+pub start-leads : (old middle new : WorldState) (a : Access) (value size : ℕ) (reply : Reply) → a.write ≡ None → a.offset ≡ 0x4C
+    → ((b : Base) (t : Transcript) → Follows b t old → Steps b t (AccessLine a) (replied.Value value size) middle)
+    → ((b : Base) (t : Transcript) → Follows b t middle → Steps b t Work reply new)
+    → Leads old a value new
+start-leads old middle new a value size reply none here steps works = λ b p after.
+    let one : IsAfter b (Read a value ∷ p) middle = read-after b p old middle a value size (steps b) after in
+    let two : IsAfter b (after_turn b (Read a value ∷ p)) new = turn-after b (Read a value ∷ p) middle new reply (works b) one in
+    subst (λ (h : History). IsAfter b h new) (after-start b p a value a.write (a.offset == 0x4C) none (is_there a.offset here)) two
+
+clash : (write : Option ℕ) → IsSome write → write ≡ None → ⊥
+clash (Some w) some none = cc
+clash None some none = cc
+
+-- the reply to a write
+accepted : (b : Base) (t : Transcript) (a : Access) (reply : Reply) (new : WorldState) → IsSome a.write → Steps b t (AccessLine a) reply new → reply ≡ replied.Accepted
+accepted b t a replied.Accepted new some one = refl
+accepted b t a (replied.Value v s) new some one = absurd (clash a.write some one.answers.0)
+accepted b t a replied.Idle new some one = absurd one.answers
+accepted b t a (replied.Claim n) new some one = absurd one.answers
+accepted b t a (replied.Sent n) new some one = absurd one.answers
+accepted b t a (replied.Exec n) new some one = absurd one.answers
+accepted b t a (replied.Done n) new some one = absurd one.answers
+accepted b t a (replied.Cancelled n) new some one = absurd one.answers
+accepted b t a (replied.Lost n) new some one = absurd one.answers
+accepted b t a replied.Link new some one = absurd one.answers
+accepted b t a replied.Asked new some one = absurd one.answers
+accepted b t a replied.FailedDevice new some one = absurd one.answers
+accepted b t a replied.NotYet new some one = absurd one.answers
+accepted b t a replied.Reset new some one = absurd one.answers
+
+after-write : (b : Base) (p : History) (a : Access) (value : ℕ) (write : Option ℕ) (start : Bool) → IsSome write
+    → Write a ∷ p ≡ (if is_none write && start then after_turn b (event_by write a value ∷ p) else event_by write a value ∷ p)
+after-write b p a value (Some w) start some = refl
+after-write b p a value None start some = absurd (clash None some refl)
+
+-- a write
+pub write-leads : (old new : WorldState) (a : Access) (value : ℕ) (reply : Reply) → IsSome a.write
+    → ((b : Base) (t : Transcript) → Follows b t old → Steps b t (AccessLine a) reply new)
+    → Leads old a value new
+write-leads old new a value reply some steps = λ b p after.
+    let t : Transcript = after.transcript in
+    let is : reply ≡ replied.Accepted = accepted b t a reply new some (steps b t after.follows) in
+    let one : Steps b t (AccessLine a) replied.Accepted new = subst (λ (r : Reply). Steps b t (AccessLine a) r new) is (steps b t after.follows) in
+    let told : Write a ∷ history b t ≡ Write a ∷ p = ap (λ (h : History). Write a ∷ h) after.told in
+    let here : IsAfter b (Write a ∷ p) new = record {
+      transcript = exchange (AccessLine a) replied.Accepted ∷ t;
+      follows = one.follows;
+      unordered = after.unordered;
+      told = told;
+      legal = subst (Legal b) told (one.legal (subst (Legal b) (sym after.told) after.legal));
+    } in
+    subst (λ (h : History). IsAfter b h new) (after-write b p a value a.write (a.offset == 0x4C) some) here
+
+-- a world stays ready
+pub ready-on : (old new : WorldState) (a : Access) (value : ℕ) → IsReady old → Leads old a value new → IsReady new
+ready-on old new a value ready leads = (ready.0, after_access ready.0 ready.1 a value, leads ready.0 ready.1 ready.2)

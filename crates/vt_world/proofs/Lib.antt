@@ -1,0 +1,15 @@
+pub mod Phases
+pub mod Overwritten
+pub mod Held
+pub mod Jobs
+pub mod Writes
+pub mod Guests
+pub mod Orders
+pub mod Behind
+pub mod Turns
+pub mod Steps
+pub mod Asks
+pub mod Resets
+pub mod Lines
+pub mod Waits
+pub mod Buses

@@ -1,0 +1,67 @@
+-- The lines of the guest, and an order, lead a world on.
+use Rattle.std.proofs.Common.{◌≡◌, ◌≢◌, ℕ, ◌+◌, ◌-◌, ◌<◌, ◌≤◌, Bool, true, false, List, ◌∷◌, refl, ap, sym, subst, ◌∙◌, arith, Some, None}
+use Rattle.std.specs.Prelude.{Option, IsSome}
+use Rattle.vt_base.specs.Buffer.{zeros}
+use Rattle.vt_base.proofs.Zeros.{length-zeros}
+use Rattle.crb_regs.specs.LittleEndian.{number_at}
+use Rattle.crb_regs.specs.Access.{Access}
+use Rattle.crb_machine.specs.Over.{plain_device}
+use Rattle.crb_machine.specs.State.{DeviceState}
+use Rattle.crb_machine.specs.Steps.{collected, device_byte, written, fresh_state}
+use Rattle.crb_machine.specs.declared.parts.DeviceParts.{DeviceParts}
+use Rattle.crb_port.specs.declared.job.Standing.{Standing}
+use Rattle.crb_history.specs.Base.{Base}
+use Rattle.crb_history.specs.Event.Event.{Read as Reading, Write as Writing}
+use Rattle.crb_history.specs.Replies.{Transcript, history, order_of, call_count}
+use Rattle.crb_worker.specs.declared.progress.Progress.{Progress}
+use Rattle.ctrl_client.specs.Link.{Link}
+use Rattle.vt_script.specs.declared.event.Event.TheVariants.{Access as AccessLine, Fail}
+use Rattle.vt_script.specs.declared.reply.Reply.TheVariants as replied
+use Rattle.move_codec.specs.declared.names.HostName.{HostName}
+use Rattle.vt_world.specs.Follows.{Stands, WorldState, Follows, IsDue, Steps}
+use Rattle.vt_world.proofs.Guests.{write-stands, read-stands, read-shows}
+use Rattle.vt_world.proofs.Orders.{due-same}
+
+-- a write of the guest
+pub write-steps : (b : Base) (t : Transcript) (d e : DeviceParts Standing) (progress : Progress) (l : Link) (due : Option ℕ) (a : Access)
+    → Follows b t (record { device = d; progress = progress; link = l; due = due })
+    → a.offset + a.size ≤ 0x1000 → IsSome a.write → plain_device e ≡ written (collected (plain_device d)) a
+    → Steps b t (AccessLine a) replied.Accepted (record { device = e; progress = progress; link = l; due = due })
+write-steps b t d e progress l due a follows fits some is = record {
+  answers = some;
+  legal = λ legal. (legal, tt);
+  follows = record {
+    fit = follows.fit;
+    stands = subst (λ (x : DeviceState). Stands b (Writing a ∷ history b t) x progress l) (sym is) (write-stands b (history b t) (plain_device d) progress l a follows.stands fits);
+    due = due-same (order_of t) (call_count b t) due follows.due;
+  };
+}
+
+-- a read of the guest
+pub read-steps : (b : Base) (t : Transcript) (d e : DeviceParts Standing) (progress : Progress) (l : Link) (due : Option ℕ) (a : Access) (value : ℕ)
+    → Follows b t (record { device = d; progress = progress; link = l; due = due })
+    → a.offset + a.size ≤ 0x1000 → a.write ≡ None → plain_device e ≡ collected (plain_device d)
+    → value ≡ number_at (device_byte (collected (plain_device d))) a.offset a.size
+    → Steps b t (AccessLine a) (replied.Value value a.size) (record { device = e; progress = progress; link = l; due = due })
+read-steps b t d e progress l due a value follows fits none is shown = record {
+  answers = (none, refl);
+  legal = λ legal. (legal, (fits, read-shows b (history b t) (plain_device d) progress l a value follows.stands fits shown));
+  follows = record {
+    fit = follows.fit;
+    stands = subst (λ (x : DeviceState). Stands b (Reading a value ∷ history b t) x progress l) (sym is) (read-stands b (history b t) (plain_device d) progress l a value follows.stands);
+    due = due-same (order_of t) (call_count b t) due follows.due;
+  };
+}
+
+-- an order takes the place of the one that stood
+pub fail-steps : (b : Base) (t : Transcript) (w : WorldState) (host : HostName) (call : ℕ)
+    → Follows b t w → Steps b t (Fail host call) replied.Accepted (record w { due = Some (call - 1) })
+fail-steps b t w host call follows = record {
+  answers = refl;
+  legal = λ legal. legal;
+  follows = record {
+    fit = follows.fit;
+    stands = follows.stands;
+    due = (omega arith, ap Some (omega arith));
+  };
+}

@@ -1,0 +1,56 @@
+-- A world as the bus of a driver: each access is one of the guest, and the worker takes a step after each read of START.
+-- (Own definitions.)
+use Rattle.std.specs.Prelude.{◌≡◌, ℕ, Bool, false, ◌&&◌, ◌==◌, if◌then◌else◌, List, ◌∷◌, Option, Some, None, is_none}
+use Rattle.crb_regs.specs.Access.{Access}
+use Rattle.crb_regs.specs.declared.registers.TheConstants.{CTRL_START}
+use Rattle.crb_driver.specs.Bus.{Relation}
+use Rattle.crb_history.specs.Base.{Base}
+use Rattle.crb_history.specs.Event.{Event, History}
+use Rattle.crb_history.specs.Event.Event.{Read, Write}
+use Rattle.crb_history.specs.Legal.{Legal}
+use Rattle.crb_history.specs.Replies.{Transcript, history, order_of, with_event, turn}
+use Rattle.vt_script.specs.declared.event.Event.TheVariants.{Work}
+use Rattle.vt_world.specs.Follows.{WorldState, Follows}
+
+-- the world stands where this history of one device over one TPM leads, and no call is ordered to fail
+pub record IsAfter (b : Base) (p : History) (w : WorldState) : Type 0 where
+  pub transcript : Transcript
+  pub follows : Follows b transcript w
+  pub unordered : order_of transcript ≡ None
+  pub told : history b transcript ≡ p
+  pub legal : Legal b p
+
+-- the event by whether the access writes: a read gives a value, a write carries its own
+abbrev pub event_by : Option ℕ → Access → ℕ → Event
+event_by None a value = Read a value
+event_by (Some written) a value = Write a
+
+-- the event of an access that read or wrote this value
+abbrev pub event_of_access : Access → ℕ → Event
+event_of_access a value = event_by a.write a value
+
+-- whether the access reads START
+abbrev pub reads_start : Access → Bool
+reads_start a = is_none a.write && a.offset == CTRL_START
+
+-- no call fails
+abbrev pub none_fails : ℕ → Bool
+none_fails calls = false
+
+-- the history after a step of the worker, none of whose calls fails
+abbrev pub after_turn : Base → History → History
+after_turn b p = with_event (Some Work) (turn b p none_fails) none_fails p
+
+-- the history after an access
+abbrev pub after_access : Base → History → Access → ℕ → History
+after_access b p a value =
+    if reads_start a then after_turn b (event_of_access a value ∷ p)
+    else event_of_access a value ∷ p
+
+-- the world stands after some history
+abbrev pub IsReady : WorldState → Type 0
+IsReady w = (b : Base) × (p : History) × IsAfter b p w
+
+-- after whatever history the old world stands, the new one stands after that history and the access
+abbrev pub Leads : Relation WorldState
+Leads old a value new = (b : Base) (p : History) → IsAfter b p old → IsAfter b (after_access b p a value) new
