@@ -1,5 +1,5 @@
 -- A request and the first bytes of its reply.
-use Rattle.std.proofs.Common.{◌≡◌, ℕ, zero, suc, ◌<◌, ◌≤◌, Bool, true, false, not, List, length, take, Option, Some, None, Result, Ok, Err, is_ok, refl, sym, ap, subst, ◌∙◌}
+use Rattle.std.proofs.Common.{◌≡◌, ℕ, zero, suc, ◌≤◌, Bool, true, false, not, List, length, take, Option, Some, None, Result, Ok, Err, is_ok, refl, sym, ap, subst, ◌∙◌}
 use Rattle.std.specs.Prelude.{IfSome, OnOk, ◌||◌, cond}
 use Rattle.vt_base.specs.declared.words.Chan.TheVariants.{Ctrl}
 use Rattle.vt_base.specs.declared.words.Failed.{Failed}
@@ -9,7 +9,7 @@ use Rattle.ctrl_client.specs.Desk.{Desk, Turn, Obeys}
 use Rattle.ctrl_client.specs.Link.{Link, at_hand, received, with_turn}
 use Rattle.ctrl_client.specs.Plan.{fails_within, plan_after}
 use Rattle.ctrl_client.specs.Whole.{ReceivesWhole}
-use Rattle.ctrl_client.specs.Exchange.{IsQuiet, SentOut, Sends, sends_of, calls_of, read_off, ExchangedBy, Exchanges}
+use Rattle.ctrl_client.specs.Exchange.{IsQuiet, SentOut, Sends, sends_of, calls_of, ExchangedBy, Exchanges}
 use Rattle.ctrl_client.proofs.Sending.{or-false}
 
 pub not_true : (b : Bool) → true ≡ not b → b ≡ false

@@ -1,7 +1,7 @@
 -- A piece of a blob, and the size of the buffer, over a link that is quiet.
-use Rattle.std.proofs.Common.{◌≡◌, ℕ, zero, suc, ◌+◌, ◌-◌, ◌^◌, ◌<◌, ◌≤◌, Bool, true, false, not, ◌||◌, ◌&&◌, List, [], ◌∷◌, ◌++◌, length, take, drop, Option, Some, None, Result, Ok, Err, is_ok, refl, sym, ap, subst, ◌∙◌, arith, cond}
-use Rattle.std.specs.Prelude.{IfSome, option_map, ◌==◌, nat_lt, min}
-use Rattle.std.specs.Int.{w32, from_be_bytes}
+use Rattle.std.proofs.Common.{◌≡◌, ℕ, zero, suc, ◌-◌, ◌^◌, ◌<◌, ◌≤◌, Bool, true, false, not, ◌||◌, List, [], ◌∷◌, ◌++◌, length, take, drop, Option, Some, None, Result, Ok, Err, refl, sym, ap, subst, ◌∙◌, arith, cond}
+use Rattle.std.specs.Prelude.{IfSome, option_map, nat_lt, min}
+use Rattle.std.specs.Int.{w32}
 use Rattle.std.proofs.lemmas.Bool.Decides.{nat_tests}
 use Rattle.std.proofs.lemmas.Nat.{from_be_bytes-to_be_bytes_4}
 use Rattle.std.proofs.lemmas.List.{take_all, drop_all, length-take, length-drop}
@@ -12,17 +12,16 @@ use Rattle.tpm_frame.specs.Frame.{number_at}
 use Rattle.tpm_core.specs.declared.parts.TpmParts.{TpmParts}
 use Rattle.state_blobs.specs.Texts.{text_of, slice}
 use Rattle.state_blobs.specs.declared.words.Piece.{Piece}
-use Rattle.ctrl_codec.specs.declared.request.Request.TheVariants.{GetStateBlob, SetBufferSize}
+use Rattle.ctrl_codec.specs.declared.request.Request.TheVariants.{GetStateBlob}
 use Rattle.ctrl_codec.specs.Replies.{reply_spelling}
 use Rattle.ctrl_client.specs.declared.fault.ClientFault.{ClientFault}
 use Rattle.ctrl_client.specs.declared.fault.ClientFault.TheVariants.{Link as LinkFault, Result as BadResult}
 use Rattle.ctrl_client.specs.declared.profile.TheConstants.{BAD_ORDINAL, BAD_PARAMETER}
-use Rattle.ctrl_client.specs.Desk.{Desk, Turn, Obeys, blob_given, piece_of, no_blob, buffer_for, kind_of}
-use Rattle.ctrl_client.specs.Link.{Link, Lane, empty_lane, with_turn, at_hand, received, taken, cut}
+use Rattle.ctrl_client.specs.Desk.{Desk, Turn, Obeys, blob_given, piece_of, no_blob, kind_of}
+use Rattle.ctrl_client.specs.Link.{Link, Lane, empty_lane, at_hand, received, cut}
 use Rattle.ctrl_client.specs.Plan.{fails_within, plan_after}
-use Rattle.ctrl_client.specs.Exchange.{IsQuiet, Exchanges, ExchangedBy, read_off}
-use Rattle.ctrl_client.specs.Pieces.{BlobFields, judged_fields, is_misfit, piece_at, piece_of_tpm, bytes_at, text_of_tpm, piece_given, bytes_given, calls_for, HasRoom, Fetches, TakesData, IsSized, Sizes, SizedBy}
-use Rattle.ctrl_client.proofs.Sending.{or-false}
+use Rattle.ctrl_client.specs.Exchange.{IsQuiet, Exchanges, ExchangedBy}
+use Rattle.ctrl_client.specs.Pieces.{BlobFields, judged_fields, is_misfit, piece_at, piece_of_tpm, bytes_at, text_of_tpm, piece_given, bytes_given, calls_for, HasRoom, Fetches, TakesData}
 use Rattle.ctrl_client.proofs.Exchanging.{last_fails, last_plan, neither}
 
 -- ---- the fixed fields

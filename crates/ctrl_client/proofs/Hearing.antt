@@ -1,5 +1,5 @@
 -- What stands at the front of control bytes.
-use Rattle.std.proofs.Common.{◌≡◌, ◌≢◌, ℕ, ◌+◌, ◌<◌, ◌≤◌, List, [], ◌∷◌, ◌++◌, length, take, drop, Option, Some, None, Result, Ok, Err, refl, sym, ap, ◌∙◌, arith, append-nil, append_assoc}
+use Rattle.std.proofs.Common.{◌≡◌, ℕ, ◌<◌, List, [], ◌++◌, length, take, drop, Some, None, Result, Ok, Err, refl, sym, ap, ◌∙◌, arith, append-nil, append_assoc}
 use Rattle.std.proofs.lemmas.List.{take_at, take-append-drop, length-append, length-take}
 use Rattle.vt_base.specs.declared.grammar.Missing.{Missing}
 use Rattle.vt_base.specs.Verdict.{judged}
@@ -10,7 +10,7 @@ use Rattle.ctrl_codec.specs.declared.request.Request.TheVariants.{GetCapability,
 use Rattle.ctrl_codec.specs.declared.request.RequestFault.{RequestFault}
 use Rattle.ctrl_codec.specs.Requests.{Asks, HasData, Refuses, Ending, spelling, requests}
 use Rattle.ctrl_codec.proofs.Requests.{asks_back, refuses_back}
-use Rattle.ctrl_client.specs.Link.{Heard, heard_by, heard_in, data_in}
+use Rattle.ctrl_client.specs.Link.{heard_by, heard_in, data_in}
 use Rattle.ctrl_client.specs.Link.Heard.{Asked, Refused}
 
 abbrev asked : Request → Ending

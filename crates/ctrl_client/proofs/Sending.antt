@@ -1,7 +1,6 @@
 -- A request goes out over a link that is quiet.
-use Rattle.std.proofs.Common.{◌≡◌, ◌≢◌, ℕ, ◌+◌, ◌<◌, ◌≤◌, Bool, true, false, not, List, [], ◌∷◌, ◌++◌, length, take, drop, Option, Some, None, refl, sym, ap, subst, ◌∙◌, arith, append-nil}
+use Rattle.std.proofs.Common.{◌≡◌, ℕ, ◌+◌, ◌<◌, Bool, true, false, not, List, [], ◌∷◌, ◌++◌, length, Option, Some, None, refl, sym, ap, subst, ◌∙◌, arith, append-nil}
 use Rattle.std.specs.Prelude.{IfSome, ◌||◌, cond}
-use Rattle.std.proofs.lemmas.List.{take-append-drop, length-append, length-take, length-drop}
 use Rattle.vt_base.specs.declared.words.Chan.TheVariants.{Ctrl}
 use Rattle.ctrl_codec.specs.declared.request.Request.{Request}
 use Rattle.ctrl_codec.specs.declared.request.Request.TheVariants.{GetCapability, Init, Shutdown, GetEstablished, SetLocality, CancelCommand, StoreVolatile, ResetEstablished, GetStateBlob, SetStateBlob, Stop, GetConfig, SetBufferSize}
@@ -10,7 +9,7 @@ use Rattle.ctrl_codec.proofs.RequestLaws.{spelling_asks}
 use Rattle.ctrl_client.specs.Desk.{Turn, Obeys}
 use Rattle.ctrl_client.specs.Link.{Link, Lane, Heard, Handed, HandedBy, Asks as AsksFor, Goes, SentBy, cut, takes, heard_in, with_turn}
 use Rattle.ctrl_client.specs.Link.Heard.{Asked}
-use Rattle.ctrl_client.specs.Plan.{fails_within, plan_after}
+use Rattle.ctrl_client.specs.Plan.{fails_within}
 use Rattle.ctrl_client.specs.Exchange.{IsQuiet, SentOut, Sends}
 use Rattle.ctrl_client.proofs.Hearing.{heard_front, heard_open, part_is_open}
 

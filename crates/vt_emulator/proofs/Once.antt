@@ -1,11 +1,10 @@
 -- What a message does to an emulator, and its reply, are told once.
-use Rattle.std.proofs.Common.{◌≡◌, ℕ, Bool, true, false, List, [], ◌∷◌, ◌++◌, Option, Some, None, sym, ap, ◌∙◌, inl, inr, eqb}
+use Rattle.std.proofs.Common.{◌≡◌, ℕ, Bool, true, false, List, [], ◌∷◌, Option, Some, None, sym, ap, ◌∙◌, inl, inr, eqb}
 use Rattle.std.specs.Prelude.{nat_lt}
 use Rattle.vt_base.specs.declared.words.Kind.{Kind}
 use Rattle.tpm_core.specs.declared.parts.TpmParts.{TpmParts}
 use Rattle.state_blobs.specs.declared.words.BlobFault.{BlobFault}
 use Rattle.state_blobs.specs.Assembly.{IsAssembled, IsFault}
-use Rattle.ctrl_codec.specs.declared.request.Request.{Request}
 use Rattle.ctrl_codec.specs.declared.request.Request.TheVariants.{GetCapability, Init, Shutdown, GetEstablished, SetLocality, CancelCommand, StoreVolatile, ResetEstablished, GetStateBlob, SetStateBlob, Stop, GetConfig, SetBufferSize}
 use Rattle.ctrl_client.specs.declared.profile.TheConstants.{SUCCESS, DELETE_VOLATILE}
 use Rattle.ctrl_client.specs.Desk.{Desk, Turn, InitsBy, StartsBy, Assembled, TakesPiece, BlobTaken, is_nothing, volatile_taken, kind_of, resulted, switched_on, started_with}

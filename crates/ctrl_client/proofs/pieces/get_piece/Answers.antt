@@ -1,7 +1,4 @@
-use Rattle.std.proofs.Common.{rules, ◌≡◌, ℕ, List, Option, Some, None, length, refl, ap, sym, subst, ◌∙◌, arith}
-use Rattle.std.specs.Prelude.{IfSome}
-use Rattle.ctrl_client.specs.Link.{Link}
-use Rattle.ctrl_client.specs.Pieces.{HasRoom, Fetches}
+use Rattle.std.proofs.Common.{rules, length}
 use Rattle.ctrl_client.proofs.Fetching.{fetch_given, fetch_refused}
 use Rattle.ctrl_client.proofs.pieces.get_piece.Goals as goal
 
