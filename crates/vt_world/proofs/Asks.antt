@@ -1,14 +1,13 @@
 -- A cancel beside the registers leads a world on.
-use Rattle.std.proofs.Common.{◌≡◌, ℕ, ◌+◌, ◌≤◌, Bool, true, false, not, ◌&&◌, ◌||◌, List, [], ◌∷◌, take, refl, ap, sym, subst, ◌∙◌, arith, Some, None, Ok, Err, cond}
-use Rattle.std.specs.Prelude.{Option, Result, option_map}
+use Rattle.std.proofs.Common.{◌≡◌, ℕ, ◌+◌, Bool, true, false, ◌&&◌, ◌||◌, List, [], ◌∷◌, take, refl, ap, sym, subst, ◌∙◌, arith, Some, None, Ok, Err, cond}
+use Rattle.std.specs.Prelude.{Option, option_map}
 use Rattle.crb_machine.specs.Over.{plain_device}
 use Rattle.crb_machine.specs.State.{DeviceState, Slot}
-use Rattle.crb_machine.specs.State.Slot.{Home, Queued, Claimed as ClaimedSlot}
 use Rattle.crb_machine.specs.Steps.{collected}
 use Rattle.crb_machine.specs.declared.parts.DeviceParts.{DeviceParts}
 use Rattle.crb_port.specs.declared.job.Job.{Job}
 use Rattle.crb_port.specs.declared.job.Standing.{Standing}
-use Rattle.crb_regs.specs.Registers.{is_executing, is_lost}
+use Rattle.crb_regs.specs.Registers.{is_executing}
 use Rattle.tpm_core.specs.declared.parts.TpmParts.{TpmParts}
 use Rattle.crb_history.specs.Base.{Base}
 use Rattle.crb_history.specs.Event.{History}
@@ -16,21 +15,18 @@ use Rattle.crb_history.specs.Event.Event.{Ask as Asking}
 use Rattle.crb_history.specs.Device.{phase_of, last_command, stage_of, Stage}
 use Rattle.crb_history.specs.Device.Stage.{Waiting, Claimed, HasSent, HasRun}
 use Rattle.crb_history.specs.Asked.{asked_in_time, is_sent}
-use Rattle.crb_history.specs.Legal.{Legal}
-use Rattle.crb_history.specs.Replies.{Transcript, history, order_of, call_count, fails_within as due_within, ask_reply}
+use Rattle.crb_history.specs.Replies.{Transcript, history, order_of, call_count, fails_within as due_within}
 use Rattle.crb_worker.specs.declared.progress.Progress.{Progress}
-use Rattle.crb_worker.specs.declared.progress.Progress.TheVariants.{Free, Claimed as ClaimedJob, Sent as SentJob, Run as RunJob}
 use Rattle.ctrl_codec.specs.declared.request.Request.TheVariants.{CancelCommand}
 use Rattle.ctrl_client.specs.declared.fault.ClientFault.{ClientFault}
-use Rattle.ctrl_client.specs.declared.fault.ClientFault.TheVariants.{Link as LinkFault}
 use Rattle.ctrl_client.specs.Desk.{marked}
 use Rattle.ctrl_client.specs.Link.{Link}
 use Rattle.ctrl_client.specs.Plan.{fails_within, plan_after}
-use Rattle.ctrl_client.specs.Exchange.{IsQuiet, Commands, CommandedBy}
+use Rattle.ctrl_client.specs.Exchange.{Commands, CommandedBy}
 use Rattle.vt_script.specs.declared.event.Event.TheVariants.{Ask as AskLine}
 use Rattle.vt_script.specs.declared.reply.Reply.TheVariants as replied
 use Rattle.vt_world.specs.Wires.{is_due, passed}
-use Rattle.vt_world.specs.Follows.{IsLastJob, IsRunJob, Placed, place_of, given, tpm_at, IsBehind, IsLinkAfter, Stands, WorldState, Follows, IsDue, Steps}
+use Rattle.vt_world.specs.Follows.{IsLastJob, Placed, place_of, given, tpm_at, IsBehind, Stands, Follows, IsDue, Steps}
 use Rattle.vt_world.specs.Follows.Placed.{AtHome, InQueue, InHand, OnWay, Ran}
 use Rattle.vt_world.proofs.Jobs.{IsDeviceAfter-same}
 use Rattle.vt_world.proofs.Orders.{fails-reaches, due-passed, due-failed}

@@ -1,22 +1,19 @@
 -- What the worker's calls do to the emulator behind a link.
-use Rattle.std.proofs.Common.{◌≡◌, ◌≢◌, ℕ, ◌+◌, ◌-◌, ◌≤◌, Bool, true, false, not, List, [], ◌∷◌, ◌++◌, length, take, drop, refl, ap, sym, subst, ◌∙◌, arith, Some, None, Ok}
-use Rattle.std.specs.Prelude.{Option, slice_index, nat_lt, IsTrue, ◌&&◌}
+use Rattle.std.proofs.Common.{◌≡◌, ◌≢◌, ℕ, ◌+◌, ◌-◌, ◌≤◌, Bool, true, false, not, List, [], ◌∷◌, ◌++◌, length, take, drop, refl, ap, sym, subst, ◌∙◌, arith, Some, None}
+use Rattle.std.specs.Prelude.{Option, slice_index, ◌&&◌}
 use Rattle.std.specs.Int.{Width, w16, w32, byte_len, from_be_bytes}
 use Rattle.std.specs.Str.{bytes_eq}
 use Rattle.std.proofs.lemmas.Slice.Eq.{bytes_eq-Decides}
 use Rattle.std.proofs.lemmas.Bool.Decides.{nat_tests}
-use Rattle.std.proofs.lemmas.Grind.{common_steps}
-use Rattle.std.proofs.lemmas.List.{take_all, take-take, drop-take, length-take, length-drop, take-append-drop, drop_all}
+use Rattle.std.proofs.lemmas.List.{take_all, take-take, drop-take, length-take, drop_all}
 use Rattle.vt_base.specs.declared.words.Chan.TheVariants.{Data}
 use Rattle.vt_base.proofs.Layouts.{judged_spells}
-use Rattle.tpm_frame.specs.Frame.{number_at, short}
+use Rattle.tpm_frame.specs.Frame.{number_at}
 use Rattle.tpm_frame.specs.Frames.{frames, frame_length_of, first_frame, IsFrame}
 use Rattle.tpm_frame.specs.Sizes.{named_size}
-use Rattle.tpm_frame.specs.declared.TheConstants.{CANCELED}
 use Rattle.tpm_frame.proofs.Parts.{first_tell, front_is_frame}
 use Rattle.tpm_core.specs.declared.parts.TpmParts.{TpmParts}
 use Rattle.tpm_core.specs.Answers.{answer, values_after}
-use Rattle.tpm_core.specs.Answers.Entry.{Executed}
 use Rattle.tpm_core.specs.Responses.{cancelled, IsResponse}
 use Rattle.tpm_core.specs.Steps.{IsFit}
 use Rattle.tpm_core.proofs.Replies.{answer_is_response, reply_not_cancelled}
@@ -28,7 +25,7 @@ use Rattle.crb_history.specs.Bytes.{command_in}
 use Rattle.crb_history.specs.Device.Stage.{HasSent, HasRun}
 use Rattle.crb_history.proofs.Bytes.{take-command_in, frame_length-most}
 use Rattle.crb_worker.specs.Heads.{is_head, is_cancelled}
-use Rattle.vt_world.specs.Follows.{given, tpm_behind, held_at, lane_at, IsDesk, IsBehind}
+use Rattle.vt_world.specs.Follows.{given, tpm_behind, IsDesk, IsBehind}
 use Rattle.vt_world.proofs.Jobs.{Rests}
 
 -- ---- the command of a buffer

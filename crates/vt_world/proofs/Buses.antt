@@ -10,8 +10,7 @@ use Rattle.crb_history.specs.Event.Event.{Read, Write}
 use Rattle.crb_history.specs.Device.{phase_of, stage_of, Stage}
 use Rattle.crb_history.specs.Device.Stage.{Waiting, Claimed, HasSent, HasRun}
 use Rattle.crb_history.specs.Legal.{Legal}
-use Rattle.crb_history.specs.Replies.{Transcript, Turning, turning_of, turn, turn_at, history, order_of, call_count, reaches, fails_within, with_event, order_after, is_fault}
-use Rattle.vt_script.specs.declared.event.Event.{Event as Line}
+use Rattle.crb_history.specs.Replies.{Transcript, turning_of, turn, turn_at, history, order_of, call_count, reaches, fails_within, with_event, is_fault}
 use Rattle.vt_script.specs.declared.event.Event.TheVariants.{Access as AccessLine, Work}
 use Rattle.vt_script.specs.declared.reply.Reply.{Reply}
 use Rattle.vt_script.specs.declared.reply.Reply.TheVariants as replied

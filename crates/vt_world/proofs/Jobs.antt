@@ -1,11 +1,9 @@
 -- The last command where it stands.
-use Rattle.std.proofs.Common.{◌≡◌, ℕ, Bool, true, false, List, Option, Some, None, refl, sym, ◌∙◌, ap}
-use Rattle.std.specs.Prelude.{cond}
-use Rattle.crb_regs.specs.Registers.{is_executing, is_lost}
-use Rattle.crb_regs.specs.declared.phase.Phase.{Phase}
+use Rattle.std.proofs.Common.{◌≡◌, ℕ, Bool, true, false, List, Option, Some, None, refl, sym, ◌∙◌}
+use Rattle.crb_regs.specs.Registers.{is_executing}
 use Rattle.crb_regs.specs.declared.phase.Phase.TheVariants.{Execution}
 use Rattle.crb_machine.specs.State.{is_home, Slot, DeviceState}
-use Rattle.crb_machine.specs.Steps.{collected, collected_at}
+use Rattle.crb_machine.specs.Steps.{collected_at}
 use Rattle.crb_port.specs.declared.job.Job.{Job}
 use Rattle.crb_machine.specs.State.Slot.{Home, Queued, Claimed as ClaimedSlot, Answered}
 use Rattle.ctrl_client.specs.Link.{Link, empty_lane}
@@ -16,7 +14,7 @@ use Rattle.crb_history.specs.Device.{registers_of, phase_of, number_of, buffer, 
 use Rattle.crb_history.specs.Device.Stage.{Waiting, Claimed, HasSent, HasRun}
 use Rattle.crb_history.specs.Asked.{held_back, asked_in_time}
 use Rattle.crb_worker.specs.declared.progress.Progress.{Progress}
-use Rattle.vt_world.specs.Follows.{HoldsBuffer, IsDeviceAfter, IsLastJob, IsRunJob, Placed, place_of, given_at, given, tpm_at, IsDesk, IsBehind, IsLinkAfter}
+use Rattle.vt_world.specs.Follows.{HoldsBuffer, IsDeviceAfter, IsLastJob, IsRunJob, Placed, place_of, IsDesk, IsBehind, IsLinkAfter}
 use Rattle.vt_world.specs.Follows.Placed.{AtHome, InQueue, InHand, OnWay, Ran}
 
 -- the last command is at the same stage after both histories

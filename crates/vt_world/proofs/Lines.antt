@@ -1,13 +1,11 @@
 -- The lines of the guest, and an order, lead a world on.
-use Rattle.std.proofs.Common.{◌≡◌, ◌≢◌, ℕ, ◌+◌, ◌-◌, ◌<◌, ◌≤◌, Bool, true, false, List, ◌∷◌, refl, ap, sym, subst, ◌∙◌, arith, Some, None}
+use Rattle.std.proofs.Common.{◌≡◌, ℕ, ◌+◌, ◌-◌, ◌≤◌, ◌∷◌, refl, ap, sym, subst, arith, Some, None}
 use Rattle.std.specs.Prelude.{Option, IsSome}
-use Rattle.vt_base.specs.Buffer.{zeros}
-use Rattle.vt_base.proofs.Zeros.{length-zeros}
 use Rattle.crb_regs.specs.LittleEndian.{number_at}
 use Rattle.crb_regs.specs.Access.{Access}
 use Rattle.crb_machine.specs.Over.{plain_device}
 use Rattle.crb_machine.specs.State.{DeviceState}
-use Rattle.crb_machine.specs.Steps.{collected, device_byte, written, fresh_state}
+use Rattle.crb_machine.specs.Steps.{collected, device_byte, written}
 use Rattle.crb_machine.specs.declared.parts.DeviceParts.{DeviceParts}
 use Rattle.crb_port.specs.declared.job.Standing.{Standing}
 use Rattle.crb_history.specs.Base.{Base}
@@ -18,7 +16,7 @@ use Rattle.ctrl_client.specs.Link.{Link}
 use Rattle.vt_script.specs.declared.event.Event.TheVariants.{Access as AccessLine, Fail}
 use Rattle.vt_script.specs.declared.reply.Reply.TheVariants as replied
 use Rattle.move_codec.specs.declared.names.HostName.{HostName}
-use Rattle.vt_world.specs.Follows.{Stands, WorldState, Follows, IsDue, Steps}
+use Rattle.vt_world.specs.Follows.{Stands, WorldState, Follows, Steps}
 use Rattle.vt_world.proofs.Guests.{write-stands, read-stands, read-shows}
 use Rattle.vt_world.proofs.Orders.{due-same}
 

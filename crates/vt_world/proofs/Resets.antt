@@ -1,5 +1,5 @@
 -- A reset of the guest leads a world on.
-use Rattle.std.proofs.Common.{◌≡◌, ◌≢◌, ℕ, ◌+◌, ◌≤◌, Bool, true, false, not, ◌&&◌, List, [], ◌∷◌, refl, ap, sym, subst, ◌∙◌, arith, Some, None, Ok, Err, cond}
+use Rattle.std.proofs.Common.{◌≡◌, ◌≢◌, ℕ, ◌+◌, Bool, true, false, ◌&&◌, List, [], ◌∷◌, refl, ap, sym, subst, ◌∙◌, arith, Some, None, Ok, Err, cond}
 use Rattle.std.specs.Prelude.{Option, Result, is_some, is_err, length}
 use Rattle.vt_base.specs.Buffer.{zeros}
 use Rattle.vt_base.proofs.Zeros.{length-zeros, get_or-zeros}
@@ -10,13 +10,13 @@ use Rattle.crb_regs.specs.declared.phase.Phase.TheVariants.{Idle, Ready, Recepti
 use Rattle.crb_machine.specs.Over.{plain_device, slot_at}
 use Rattle.crb_machine.specs.State.{DeviceState, Slot}
 use Rattle.crb_machine.specs.State.Slot.{Home, Queued, Claimed as ClaimedSlot, Answered}
-use Rattle.crb_machine.specs.Steps.{collected, collected_at, reset_regs, reset_at, reset_of, reset_reply, reset_reply_at, after_reset, after_reset_at, failed, fresh_state}
+use Rattle.crb_machine.specs.Steps.{collected, reset_regs, reset_at, reset_of, reset_reply, reset_reply_at, after_reset, after_reset_at, failed, fresh_state}
 use Rattle.crb_machine.specs.declared.parts.DeviceParts.{DeviceParts}
 use Rattle.crb_machine.specs.declared.device.NotYet.{NotYet}
 use Rattle.crb_port.specs.Known.{is_nothing}
 use Rattle.crb_port.specs.declared.job.Standing.{Standing}
 use Rattle.crb_port.specs.declared.job.Standing.TheVariants as standing
-use Rattle.tpm_core.specs.Answers.{powered_on, values_after}
+use Rattle.tpm_core.specs.Answers.{powered_on}
 use Rattle.tpm_core.specs.Answers.Entry.{PowerOn}
 use Rattle.tpm_core.specs.Steps.{IsFit}
 use Rattle.tpm_core.specs.declared.parts.TpmParts.{TpmParts}
@@ -26,30 +26,29 @@ use Rattle.tpm_core.proofs.Law.{fit-past, values_after-append, values_after-powe
 use Rattle.crb_history.specs.Base.{Base, fresh}
 use Rattle.crb_history.specs.Event.{History}
 use Rattle.crb_history.specs.Event.Event.{Reset as Resetting, ResetLost}
-use Rattle.crb_history.specs.Device.{registers_of, phase_of, number_of, last_command, executed, stage_of, Stage}
-use Rattle.crb_history.specs.Device.Stage.{Waiting, Claimed, HasSent, HasRun}
-use Rattle.crb_history.specs.Asked.{asked_in_time, is_waiting}
-use Rattle.crb_history.specs.Legal.{IsClaimed, MayReset}
-use Rattle.crb_history.specs.Replies.{Transcript, history, order_of, call_count, fails_within as due_within, is_under_way, reset_reply as reply_to_reset}
+use Rattle.crb_history.specs.Device.{phase_of, last_command, executed, stage_of}
+use Rattle.crb_history.specs.Device.Stage.{Waiting}
+use Rattle.crb_history.specs.Asked.{asked_in_time}
+use Rattle.crb_history.specs.Replies.{Transcript, history, order_of, call_count, fails_within as due_within, is_under_way}
 use Rattle.crb_worker.specs.declared.progress.Progress.{Progress}
-use Rattle.crb_worker.specs.declared.progress.Progress.TheVariants.{Free, Claimed as ClaimedJob, Sent as SentJob, Run as RunJob}
+use Rattle.crb_worker.specs.declared.progress.Progress.TheVariants.{Free}
 use Rattle.ctrl_codec.specs.declared.request.Request.TheVariants.{Init}
 use Rattle.ctrl_client.specs.declared.fault.ClientFault.{ClientFault}
 use Rattle.ctrl_client.specs.Desk.{Desk, Turn, Obeys, StartsBy, Gathers, is_nothing as is_nothing_gathered, started_here, switched_on, resulted}
 use Rattle.ctrl_client.specs.declared.profile.TheConstants.{SUCCESS}
 use Rattle.ctrl_client.specs.Link.{Link}
-use Rattle.ctrl_client.specs.Plan.{fails_within, plan_after}
+use Rattle.ctrl_client.specs.Plan.{fails_within}
 use Rattle.ctrl_client.specs.Exchange.{IsQuiet, Commands, CommandedBy}
 use Rattle.vt_script.specs.declared.event.Event.TheVariants.{Reset as ResetLine}
 use Rattle.vt_script.specs.declared.reply.Reply.TheVariants as replied
 use Rattle.vt_world.specs.Wires.{is_due, passed, fresh_wires}
-use Rattle.vt_world.specs.Follows.{IsDeviceAfter, Placed, place_of, tpm_at, IsDesk, IsLinkAfter, Stands, WorldState, Follows, IsDue, Steps}
+use Rattle.vt_world.specs.Follows.{Placed, place_of, tpm_at, IsDesk, Stands, Follows, IsDue, Steps}
 use Rattle.vt_world.specs.Follows.Placed.{AtHome, InQueue, InHand, OnWay, Ran}
-use Rattle.vt_world.proofs.Jobs.{is_resting, Rests, to_rest, from_rest, place-still}
+use Rattle.vt_world.proofs.Jobs.{is_resting, Rests, to_rest, from_rest}
 use Rattle.vt_world.proofs.Guests.{collected-collected}
 use Rattle.vt_world.proofs.Turns.{raw_claimed}
 use Rattle.vt_world.proofs.Orders.{fails-reaches, due-passed, due-failed, due-same}
-use Rattle.vt_world.proofs.Steps.{the_same, claimed_not_waiting, sent_not_waiting, run_not_waiting}
+use Rattle.vt_world.proofs.Steps.{the_same}
 use Rattle.vt_world.proofs.Asks.{two-fail}
 
 -- ---- no command is under way

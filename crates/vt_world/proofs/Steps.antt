@@ -1,8 +1,7 @@
 -- A step of the worker leads a world on.
-use Rattle.std.proofs.Common.{◌≡◌, ◌≢◌, ℕ, ◌+◌, ◌-◌, ◌<◌, ◌≤◌, Bool, true, false, not, ◌&&◌, ◌||◌, List, [], ◌∷◌, ◌++◌, length, take, drop, refl, ap, sym, subst, ◌∙◌, arith, Some, None, inl, inr, ◌⊎◌, append-nil, cond}
-use Rattle.std.specs.Prelude.{Option, nat_lt, is_some, IfSome, IsSomeAnd}
-use Rattle.std.proofs.lemmas.Bool.{eqb-true, ltb-false}
-use Rattle.std.proofs.lemmas.Bool.Decides.{nat_tests}
+use Rattle.std.proofs.Common.{◌≡◌, ◌≢◌, ℕ, ◌+◌, ◌≤◌, Bool, true, false, not, ◌&&◌, ◌||◌, List, [], ◌∷◌, ◌++◌, length, take, drop, refl, ap, sym, subst, ◌∙◌, arith, Some, None, inl, inr, ◌⊎◌, cond}
+use Rattle.std.specs.Prelude.{Option, nat_lt, is_some}
+use Rattle.std.proofs.lemmas.Bool.{ltb-false}
 use Rattle.std.proofs.lemmas.List.{take_all}
 use Rattle.vt_base.specs.Buffer.{followed_by_zeros}
 use Rattle.vt_base.specs.declared.words.Chan.TheVariants.{Data}
@@ -10,14 +9,13 @@ use Rattle.tpm_frame.specs.Frames.{first_frame}
 use Rattle.tpm_frame.specs.Sizes.{named_size}
 use Rattle.crb_regs.specs.Registers.{is_executing}
 use Rattle.crb_regs.specs.declared.registers.Regs.{Regs}
-use Rattle.crb_regs.specs.declared.phase.Phase.TheVariants.{Execution}
 use Rattle.crb_machine.specs.Over.{plain_device, placed, OwnParts, own_parts, slot_at}
 use Rattle.crb_machine.specs.State.{DeviceState, Slot}
-use Rattle.crb_machine.specs.State.Slot.{Home, Queued, Claimed as ClaimedSlot, Answered}
-use Rattle.crb_machine.specs.Steps.{collected, collected_at, answered}
+use Rattle.crb_machine.specs.State.Slot.{Queued, Claimed as ClaimedSlot}
+use Rattle.crb_machine.specs.Steps.{collected, answered}
 use Rattle.crb_machine.specs.declared.parts.DeviceParts.{DeviceParts}
 use Rattle.crb_port.specs.Known.{Known, is_waiting, is_nothing, stage_of as port_stage, waiting_stage}
-use Rattle.crb_port.specs.Calls.{Claims, ClaimsNone, ClaimsJob, Posts, Found}
+use Rattle.crb_port.specs.Calls.{ClaimsNone, ClaimsJob, Posts, Found}
 use Rattle.crb_port.specs.declared.job.Stage as port
 use Rattle.crb_port.specs.Plain.{plain}
 use Rattle.crb_port.specs.declared.job.Job.{Job}
@@ -25,7 +23,6 @@ use Rattle.crb_port.specs.declared.job.Answer.{Answer}
 use Rattle.crb_port.specs.declared.job.Standing.{Standing}
 use Rattle.crb_port.specs.declared.job.Standing.TheVariants as standing
 use Rattle.crb_port.specs.declared.job.Outcome.TheVariants as outcome
-use Rattle.tpm_core.specs.Answers.{answer}
 use Rattle.tpm_core.specs.Responses.{cancelled}
 use Rattle.tpm_core.specs.Steps.{IsFit}
 use Rattle.tpm_core.proofs.Law.{answer-append}
@@ -35,10 +32,10 @@ use Rattle.crb_history.specs.Event.Event.{Claim as Claiming, Sent as Sending, Ex
 use Rattle.crb_history.specs.Device.{effect_of, phase_of, number_of, last_command, executed, stage_of, Stage, starts, accepts, is_cancel}
 use Rattle.crb_history.specs.Device.Stage.{Waiting, Claimed, HasSent, HasRun}
 use Rattle.crb_history.specs.Asked.{held_back, asked_in_time, is_asked, is_sent, sets_cancel}
-use Rattle.crb_history.specs.Legal.{IsAt, IsClaimed}
-use Rattle.crb_history.specs.Replies.{Transcript, history, order_of, call_count, fails_within as due_within, reaches, response_length, has_rest, Turning, turning_of, turn, turn_at}
-use Rattle.crb_worker.specs.Seen.{Seen, wires_seen, Sends, Receives, ReceivesOnce, AreNext}
-use Rattle.crb_worker.specs.Works.{Works, GivesUp, is_longer, left_of, TakesResponse, ReceivesRest, ReceivesNoHead, lost as lost_answer}
+use Rattle.crb_history.specs.Legal.{IsAt}
+use Rattle.crb_history.specs.Replies.{Transcript, history, order_of, call_count, fails_within as due_within, response_length, has_rest, turning_of, turn, turn_at}
+use Rattle.crb_worker.specs.Seen.{Seen, wires_seen, ReceivesOnce}
+use Rattle.crb_worker.specs.Works.{Works, GivesUp, is_longer, left_of, ReceivesRest, lost as lost_answer}
 use Rattle.crb_worker.specs.Heads.{is_head, is_cancelled}
 use Rattle.crb_worker.specs.declared.progress.Progress.{Progress}
 use Rattle.crb_worker.specs.declared.progress.Progress.TheVariants.{Free, Claimed as ClaimedJob, Sent as SentJob, Run as RunJob}
@@ -50,10 +47,10 @@ use Rattle.vt_script.specs.declared.event.Event.TheVariants.{Work}
 use Rattle.vt_script.specs.declared.reply.Reply.{Reply}
 use Rattle.vt_script.specs.declared.reply.Reply.TheVariants as replied
 use Rattle.vt_world.specs.Wires.{is_due, passed}
-use Rattle.vt_world.specs.Follows.{said, IsDue, IsLastJob, IsRunJob, Placed, place_of, given, given_at, tpm_at, tpm_behind, Stands, InStep, WorldState, Follows, exchange, Steps}
-use Rattle.vt_world.specs.Follows.Placed.{AtHome, InQueue, InHand, OnWay, Ran}
+use Rattle.vt_world.specs.Follows.{said, IsDue, IsLastJob, Placed, given, given_at, tpm_at, tpm_behind, Stands, InStep, Follows, Steps}
+use Rattle.vt_world.specs.Follows.Placed.{AtHome, InQueue}
 use Rattle.vt_world.proofs.Held.{held-asked}
-use Rattle.vt_world.proofs.Jobs.{collected-settled, Rests}
+use Rattle.vt_world.proofs.Jobs.{Rests}
 use Rattle.vt_world.proofs.Orders.{fails-reaches, due-passed, due-failed, due-same}
 use Rattle.vt_world.proofs.Behind.{none_behind, rest_behind}
 use Rattle.vt_world.proofs.Turns.{IsRaw, raw_claimed, in_hand, on_way, ran_here, queued_last, claim-stands, sent-stands, exec-stands, head_here, given_here, cancel-stands, lost-stands, done-stands, cancelled-stands, RestFacts, rest_facts}

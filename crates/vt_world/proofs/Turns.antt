@@ -1,25 +1,22 @@
 -- The worker's steps keep a world with its history.
-use Rattle.std.proofs.Common.{◌≡◌, ◌≢◌, ℕ, ◌+◌, ◌-◌, ◌<◌, ◌≤◌, Bool, true, false, not, ◌&&◌, List, [], ◌∷◌, ◌++◌, length, take, drop, refl, ap, sym, subst, ◌∙◌, arith, Some, None, inl, inr, ◌⊎◌}
-use Rattle.std.specs.Prelude.{Option, slice_index, nat_lt, is_some}
-use Rattle.std.proofs.lemmas.Bool.Decides.{nat_tests}
-use Rattle.std.proofs.lemmas.List.{take-append-drop, length-take, length-drop, take_all}
+use Rattle.std.proofs.Common.{◌≡◌, ℕ, ◌-◌, ◌≤◌, true, false, List, [], ◌∷◌, ◌++◌, length, take, drop, refl, ap, sym, subst, ◌∙◌, arith, Some, None}
+use Rattle.std.specs.Prelude.{slice_index}
+use Rattle.std.proofs.lemmas.List.{take-append-drop, length-drop}
 use Rattle.vt_base.specs.Buffer.{followed_by_zeros}
 use Rattle.vt_base.proofs.Zeros.{length-followed_by_zeros, get_or-append_zeros}
 use Rattle.vt_base.specs.declared.words.Chan.TheVariants.{Data}
 use Rattle.tpm_frame.specs.Frames.{first_frame}
 use Rattle.tpm_frame.specs.Sizes.{named_size}
 use Rattle.crb_regs.specs.Registers.{is_executing, is_lost}
-use Rattle.crb_regs.specs.declared.registers.Regs.{Regs}
-use Rattle.crb_regs.specs.declared.phase.Phase.{Phase}
-use Rattle.crb_regs.specs.declared.phase.Phase.TheVariants.{Execution, Completion, Lost as LostPhase}
+use Rattle.crb_regs.specs.declared.phase.Phase.TheVariants.{Execution}
 use Rattle.crb_machine.specs.State.{DeviceState, Slot}
 use Rattle.crb_machine.specs.State.Slot.{Home, Queued, Claimed as ClaimedSlot, Answered}
-use Rattle.crb_machine.specs.Steps.{collected, collected_at, ended_phase, answered}
+use Rattle.crb_machine.specs.Steps.{collected, ended_phase, answered}
 use Rattle.crb_port.specs.declared.job.Job.{Job}
 use Rattle.crb_port.specs.declared.job.Answer.{Answer}
 use Rattle.crb_port.specs.declared.job.Outcome.{Outcome}
 use Rattle.crb_port.specs.declared.job.Outcome.TheVariants as outcome
-use Rattle.tpm_core.specs.Answers.{answer, values_after}
+use Rattle.tpm_core.specs.Answers.{answer}
 use Rattle.tpm_core.specs.Answers.Entry.{Executed}
 use Rattle.tpm_core.specs.Responses.{cancelled}
 use Rattle.tpm_core.specs.Steps.{IsFit}
@@ -28,18 +25,17 @@ use Rattle.tpm_core.proofs.Law.{fit-past, values_after-append, answer-append}
 use Rattle.crb_history.specs.Base.{Base}
 use Rattle.crb_history.specs.Event.{History}
 use Rattle.crb_history.specs.Event.Event.{Claim, Sent, Exec, Finish}
-use Rattle.crb_history.specs.Device.{registers_of, phase_of, number_of, buffer, last_command, executed, stage_of, Stage, phase_at_end}
+use Rattle.crb_history.specs.Device.{phase_of, buffer, last_command, executed, stage_of, Stage, phase_at_end}
 use Rattle.crb_history.specs.Device.Stage.{Waiting, Claimed, HasSent, HasRun}
-use Rattle.crb_history.specs.Asked.{held_back, asked_in_time, is_asked}
+use Rattle.crb_history.specs.Asked.{asked_in_time}
 use Rattle.crb_worker.specs.declared.progress.Progress.{Progress}
 use Rattle.crb_worker.specs.declared.progress.Progress.TheVariants.{Free, Claimed as ClaimedJob, Sent as SentJob, Run as RunJob}
-use Rattle.ctrl_client.specs.Link.{Link, empty_lane, at_hand, received, Handed, cut}
+use Rattle.ctrl_client.specs.Link.{Link, at_hand, received, Handed, cut}
 use Rattle.ctrl_client.specs.Exchange.{IsQuiet}
-use Rattle.vt_world.specs.Follows.{HoldsBuffer, IsDeviceAfter, IsLastJob, IsRunJob, Placed, place_of, given, given_at, tpm_at, tpm_behind, IsBehind, IsLinkAfter, Stands}
+use Rattle.vt_world.specs.Follows.{HoldsBuffer, IsDeviceAfter, IsLastJob, IsRunJob, Placed, given, given_at, tpm_at, tpm_behind, IsBehind, IsLinkAfter, Stands}
 use Rattle.vt_world.specs.Follows.Placed.{AtHome, InQueue, InHand, OnWay, Ran}
-use Rattle.vt_world.proofs.Jobs.{SameCommand, IsDeviceAfter-same, collected-settled, place-executing, place-still, is_resting, Rests, to_rest, from_rest}
-use Rattle.vt_world.proofs.Guests.{collected-collected}
-use Rattle.vt_world.proofs.Behind.{IsGiven, given-is, sent_behind, at_hand-held, head_behind, at_hand-rest, rest_behind, none_behind, quiet-cut}
+use Rattle.vt_world.proofs.Jobs.{IsDeviceAfter-same, place-executing, place-still, Rests, to_rest, from_rest}
+use Rattle.vt_world.proofs.Behind.{IsGiven, given-is, sent_behind, at_hand-held, head_behind, at_hand-rest, quiet-cut}
 
 -- ---- what is known of a job in hand
 

@@ -10,7 +10,7 @@ use Rattle.crb_machine.specs.Phases.{next_phase, is_accepted}
 use Rattle.crb_history.specs.Base.{Base}
 use Rattle.crb_history.specs.Event.{History}
 use Rattle.crb_history.specs.Event.Event.{Write}
-use Rattle.crb_history.specs.Device.{written_value, effect_of, phase_of, is_granted, is_cancel, number_of, buffer, executed, started, latest_number, stage_of, accepts, starts, Start as StartOf}
+use Rattle.crb_history.specs.Device.{written_value, effect_of, phase_of, is_granted, is_cancel, number_of, buffer, started, latest_number, stage_of, accepts, starts, Start as StartOf}
 use Rattle.crb_history.specs.Device.Stage.{Waiting}
 use Rattle.crb_regs.specs.declared.registers.Regs.{Regs}
 use Rattle.crb_regs.specs.declared.phase.Phase.{Phase}
@@ -29,7 +29,7 @@ use Rattle.crb_worker.specs.declared.progress.Progress.TheVariants.{Free}
 use Rattle.ctrl_client.specs.Link.{Link}
 use Rattle.vt_world.specs.Follows.{HoldsBytes, HoldsBuffer, IsDeviceAfter, IsLastJob, Placed, place_of, tpm_at, IsLinkAfter}
 use Rattle.vt_world.specs.Follows.Placed.{AtHome, InQueue, InHand, OnWay, Ran}
-use Rattle.vt_world.proofs.Jobs.{SameCommand, Placed-same, HoldsBuffer-same, link-same, place-executing, place-still, is_resting, Rests, to_rest, from_rest}
+use Rattle.vt_world.proofs.Jobs.{SameCommand, Placed-same, HoldsBuffer-same, link-same, is_resting, to_rest, from_rest}
 use Rattle.vt_world.proofs.Phases.{effect-Buffer, start-executes, executing-phase_after, phase_after-Execution, no_start-Execution, lives-before}
 use Rattle.vt_world.proofs.Overwritten.{length-overwritten, slice_index-overwritten}
 use Rattle.crb_history.proofs.Bytes.{command_in-same}

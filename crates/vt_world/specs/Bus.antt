@@ -1,6 +1,6 @@
 -- A world as the bus of a driver: each access is one of the guest, and the worker takes a step after each read of START.
 -- (Own definitions.)
-use Rattle.std.specs.Prelude.{◌≡◌, ℕ, Bool, false, ◌&&◌, ◌==◌, if◌then◌else◌, List, ◌∷◌, Option, Some, None, is_none}
+use Rattle.std.specs.Prelude.{◌≡◌, ℕ, Bool, false, ◌&&◌, ◌==◌, if◌then◌else◌, ◌∷◌, Option, Some, None, is_none}
 use Rattle.crb_regs.specs.Access.{Access}
 use Rattle.crb_regs.specs.declared.registers.TheConstants.{CTRL_START}
 use Rattle.crb_driver.specs.Bus.{Relation}

@@ -1,7 +1,7 @@
 -- Wires in memory, as their callers see them. (Own definitions.)
 use Rattle.std.specs.Prelude.{ℕ, zero, suc, Bool, true, false, List, [], drop, take, Option, Some, None}
 use Rattle.tpm_core.specs.declared.parts.TpmParts.{TpmParts}
-use Rattle.ctrl_client.specs.Link.{Link, empty_lane}
+use Rattle.ctrl_client.specs.Link.{Link}
 use Rattle.vt_emulator.specs.Emulator.{EmulatorState, fresh_emulator}
 
 -- the link, how many calls come before the one that is to fail, where one is, and how many have failed

@@ -1,4 +1,4 @@
-use Rattle.std.proofs.Common.{rules, ◌≡◌, ◌≢◌, ◌≤◌, length, refl, ap, sym, subst, ◌∙◌, arith}
+use Rattle.std.proofs.Common.{ap, ◌∙◌, arith}
 use Rattle.ctrl_client.specs.Desk.{is_nil}
 use Rattle.vt_world.proofs.Waits.{none_between}
 use Rattle.vt_world.proofs.waiting.Responses.is_empty.Goals as goal

@@ -1,4 +1,4 @@
-use Rattle.std.proofs.Common.{rules, ◌≡◌, ◌≢◌, ◌≤◌, length, refl, ap, sym, subst, ◌∙◌, arith}
+use Rattle.std.proofs.Common.{length, ap, ◌∙◌, arith}
 use Rattle.vt_base.proofs.Zeros.{length-zeros}
 use Rattle.vt_world.proofs.waiting.Responses.new.Goals as goal
 

@@ -1,4 +1,4 @@
-use Rattle.std.proofs.Common.{rules, ◌≡◌, ◌≢◌, ◌≤◌, length, refl, ap, sym, subst, ◌∙◌, arith}
+use Rattle.std.proofs.Common.{arith}
 use Rattle.vt_world.proofs.Waits.{whole_after}
 use Rattle.vt_world.proofs.waiting.Responses.run.Goals as goal
 

@@ -1,4 +1,4 @@
-use Rattle.std.proofs.Common.{rules, ◌≡◌, ◌≢◌, ◌≤◌, length, refl, ap, sym, subst, ◌∙◌, arith}
+use Rattle.std.proofs.Common.{rules, ◌≡◌, sym, subst}
 use Rattle.std.specs.Prelude.{None, IsSome}
 use Rattle.vt_world.specs.Follows.{Follows}
 use Rattle.vt_world.proofs.Lines.{write-steps, read-steps}

@@ -1,4 +1,4 @@
-use Rattle.std.proofs.Common.{rules, ◌≡◌, ◌≢◌, ◌≤◌, length, refl, ap, sym, subst, ◌∙◌, arith}
+use Rattle.std.proofs.Common.{sym, subst}
 use Rattle.vt_world.specs.Follows.{Follows}
 use Rattle.vt_world.proofs.Asks.{ask-steps, ask_failed-steps}
 use Rattle.vt_world.proofs.world.World.ask.Goals.{in-Ok, in-Err}

@@ -1,5 +1,5 @@
-use Rattle.std.proofs.Common.{rules, ◌≡◌, ◌≢◌, ◌≤◌, length, refl, ap, sym, subst, ◌∙◌, arith}
-use Rattle.std.proofs.Common.{Some, None}
+use Rattle.std.proofs.Common.{rules, ◌≡◌, length, refl}
+use Rattle.std.proofs.Common.{Some}
 use Rattle.tpm_core.specs.Fresh.{manufactured}
 use Rattle.ctrl_client.specs.Exchange.{IsQuiet}
 use Rattle.vt_world.specs.Wires.{fresh_wires}

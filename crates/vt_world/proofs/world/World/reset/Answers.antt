@@ -1,8 +1,8 @@
-use Rattle.std.proofs.Common.{rules, ◌≡◌, ◌≢◌, ◌≤◌, length, refl, ap, sym, subst, ◌∙◌, arith}
-use Rattle.std.specs.Prelude.{Ok, Err}
+use Rattle.std.proofs.Common.{◌≡◌, ◌≢◌, sym, subst, ◌∙◌}
+use Rattle.std.specs.Prelude.{Ok}
 use Rattle.crb_regs.specs.declared.phase.Phase.TheVariants.{Lost}
 use Rattle.crb_machine.specs.Over.{plain_device}
-use Rattle.crb_machine.specs.Steps.{reset_reply, after_reset}
+use Rattle.crb_machine.specs.Steps.{reset_reply}
 use Rattle.vt_world.specs.Follows.{Follows}
 use Rattle.vt_world.proofs.Resets.{done_by, lost_device-steps, reset-steps, reset_lost-steps}
 use Rattle.vt_world.proofs.Steps.{the_same}

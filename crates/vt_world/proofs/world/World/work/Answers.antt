@@ -1,4 +1,4 @@
-use Rattle.std.proofs.Common.{rules, ◌≡◌, ◌≢◌, ◌≤◌, length, refl, ap, sym, subst, ◌∙◌, arith}
+use Rattle.std.proofs.Common.{ap, sym, subst}
 use Rattle.crb_machine.specs.Over.{OwnParts}
 use Rattle.vt_world.specs.Follows.{Follows}
 use Rattle.vt_world.proofs.Steps.{work-steps}
