@@ -1,6 +1,6 @@
 -- A piece of a blob, and the size of the buffer, over a link that is quiet.
 use Rattle.std.proofs.Common.{◌≡◌, ℕ, zero, suc, ◌-◌, ◌^◌, ◌<◌, ◌≤◌, Bool, true, false, not, ◌||◌, List, [], ◌∷◌, ◌++◌, length, take, drop, Option, Some, None, Result, Ok, Err, refl, sym, ap, subst, ◌∙◌, arith, cond}
-use Rattle.std.specs.Prelude.{IfSome, option_map, nat_lt, min}
+use Rattle.std.specs.Prelude.{IfSome, option_map, nat_lt, min, ◌==◌}
 use Rattle.std.specs.Int.{w32}
 use Rattle.std.proofs.lemmas.Bool.Decides.{nat_tests}
 use Rattle.std.proofs.lemmas.Nat.{from_be_bytes-to_be_bytes_4}
@@ -15,14 +15,14 @@ use Rattle.state_blobs.specs.declared.words.Piece.{Piece}
 use Rattle.ctrl_codec.specs.declared.request.Request.TheVariants.{GetStateBlob}
 use Rattle.ctrl_codec.specs.Replies.{reply_spelling}
 use Rattle.ctrl_client.specs.declared.fault.ClientFault.{ClientFault}
-use Rattle.ctrl_client.specs.declared.fault.ClientFault.TheVariants.{Link as LinkFault, Result as BadResult}
-use Rattle.ctrl_client.specs.declared.profile.TheConstants.{BAD_ORDINAL, BAD_PARAMETER}
+use Rattle.ctrl_client.specs.declared.fault.ClientFault.TheVariants.{Link as LinkFault, Result as BadResult, Reply as BadReply}
+use Rattle.ctrl_client.specs.declared.profile.TheConstants.{SUCCESS, BAD_ORDINAL, BAD_PARAMETER, FLAGS_PLACE, TOTAL_PLACE, LENGTH_PLACE}
 use Rattle.ctrl_client.specs.Desk.{Desk, Turn, Obeys, blob_given, piece_of, no_blob, kind_of}
 use Rattle.ctrl_client.specs.Link.{Link, Lane, empty_lane, at_hand, received, cut}
 use Rattle.ctrl_client.specs.Plan.{fails_within, plan_after}
 use Rattle.ctrl_client.specs.Exchange.{IsQuiet, Exchanges, ExchangedBy}
-use Rattle.ctrl_client.specs.Pieces.{BlobFields, judged_fields, is_misfit, piece_at, piece_of_tpm, bytes_at, text_of_tpm, piece_given, bytes_given, calls_for, HasRoom, Fetches, TakesData}
-use Rattle.ctrl_client.proofs.Exchanging.{last_fails, last_plan, neither}
+use Rattle.ctrl_client.specs.Pieces.{BlobFields, judged_fields, is_misfit, refused_fields, fields_at, fields_of_tpm, fields_told, bytes_at, text_of_tpm, piece_given, bytes_given, calls_for, HasField, Fetches, TakesData}
+use Rattle.ctrl_client.proofs.Exchanging.{last_fails, last_plan, neither, not_true}
 
 -- ---- the fixed fields
 
@@ -44,21 +44,12 @@ four-read a b c d rest first second third fourth =
     ∙ ap (λ (x : ℕ). record { result = a; flags = b; total = x; size = number_at w32 12 (take 16 (four a b c d rest)) }) three
     ∙ ap (λ (x : ℕ). record { result = a; flags = b; total = c; size = x }) last
 
-pub four-left : (a b c d : ℕ) (rest : List ℕ) → drop 16 (four a b c d rest) ≡ rest
-four-left a b c d rest = refl
+-- ---- what an emulator tells
 
--- ---- what an emulator gives
-
--- what is read of its reply, and what is left
-record Told (fixed left : List ℕ) (kind : Kind) (offset room most : ℕ) (tpm : Option TpmParts) : Type 0 where
-  judged : judged_fields (fields_in fixed) offset room ≡ piece_of_tpm kind offset most tpm
-  data_is : left ≡ bytes_at (piece_of_tpm kind offset most tpm) (text_of_tpm kind tpm) offset
-
-within_fits : (text : List ℕ) (offset most room : ℕ) → length text < 2 ^ 32 → 0 < most → most ≤ room → nat_lt (length text) offset ≡ false
-    → judged_fields (record { result = 0; flags = 0; total = length text; size = min most (length text - offset) }) offset room ≡ Ok (record { total = length text; length = min most (length text - offset) })
-within_fits text offset most room small some fits inside =
-    let misfit : is_misfit (min most (length text - offset)) (length text - offset) room ≡ false = grind (arith, nat_tests, some, fits, inside) in
-    rw (inside, misfit) refl
+-- the fields that are read of its reply, and what is left
+record Told (fixed left : List ℕ) (kind : Kind) (offset most : ℕ) (tpm : Option TpmParts) : Type 0 where
+  read : fields_in fixed ≡ fields_of_tpm kind offset most tpm
+  data_is : left ≡ slice (text_of_tpm kind tpm) offset (fields_of_tpm kind offset most tpm).size
 
 desk-of : (kind : Kind) (offset : ℕ) (tpm : Option TpmParts) (d : Desk) → (blob_given (Some kind) offset tpm d).desk ≡ d
 desk-of kind offset None d = refl
@@ -69,66 +60,83 @@ desk-of kind offset (Some t) d = go (nat_lt (length (text_of kind t)) offset)
     go false = refl
 
 -- of a reply that is this turn's
-told_of : (turn now : Turn) (fields : BlobFields) (given : Result Piece ClientFault) (kind : Kind) (offset room most : ℕ) (tpm : Option TpmParts) → turn ≡ now
-    → fields_in (take 16 (reply_spelling now.reply now.payload)) ≡ fields → judged_fields fields offset room ≡ given → given ≡ piece_of_tpm kind offset most tpm
-    → drop 16 (reply_spelling now.reply now.payload) ≡ bytes_at given (text_of_tpm kind tpm) offset
-    → Told (take 16 (reply_spelling turn.reply turn.payload)) (drop 16 (reply_spelling turn.reply turn.payload)) kind offset room most tpm
-told_of turn now fields given kind offset room most tpm is read judged same left = record {
-  judged = ap (λ (x : Turn). judged_fields (fields_in (take 16 (reply_spelling x.reply x.payload))) offset room) is ∙ ap (λ (f : BlobFields). judged_fields f offset room) read ∙ judged ∙ same;
-  data_is = ap (λ (x : Turn). drop 16 (reply_spelling x.reply x.payload)) is ∙ left ∙ ap (λ (r : Result Piece ClientFault). bytes_at r (text_of_tpm kind tpm) offset) same;
+told_of : (turn now : Turn) (fields : BlobFields) (kind : Kind) (offset most : ℕ) (tpm : Option TpmParts) → turn ≡ now
+    → fields_in (take 16 (reply_spelling now.reply now.payload)) ≡ fields → fields ≡ fields_of_tpm kind offset most tpm
+    → drop 16 (reply_spelling now.reply now.payload) ≡ slice (text_of_tpm kind tpm) offset fields.size
+    → Told (take 16 (reply_spelling turn.reply turn.payload)) (drop 16 (reply_spelling turn.reply turn.payload)) kind offset most tpm
+told_of turn now fields kind offset most tpm is read same left = record {
+  read = ap (λ (x : Turn). fields_in (take 16 (reply_spelling x.reply x.payload))) is ∙ read ∙ same;
+  data_is = ap (λ (x : Turn). drop 16 (reply_spelling x.reply x.payload)) is ∙ left ∙ ap (λ (f : BlobFields). slice (text_of_tpm kind tpm) offset f.size) same;
 }
 
 -- by whether there is a TPM, and whether the place is past its blob
-told_by : (kind : Kind) (offset room : ℕ) (tpm : Option TpmParts) (d : Desk) (turn : Turn) → IfSome tpm (λ t. length (text_of kind t) < 2 ^ 32) → 0 < d.piece → d.piece ≤ room → turn ≡ blob_given (Some kind) offset tpm d
-    → Told (take 16 (reply_spelling turn.reply turn.payload)) (drop 16 (reply_spelling turn.reply turn.payload)) kind offset room d.piece tpm
-told_by kind offset room None d turn small some fits given =
-    told_of turn (no_blob BAD_ORDINAL d) (record { result = 10; flags = 0; total = 0; size = 0 }) (Err (BadResult BAD_ORDINAL)) kind offset room d.piece None given
-    (four-read 10 0 0 0 [] (omega arith) (omega arith) (omega arith) (omega arith)) refl refl refl
-told_by kind offset room (Some t) d turn small some fits given = go (nat_lt (length (text_of kind t)) offset) refl
+told_by : (kind : Kind) (offset : ℕ) (tpm : Option TpmParts) (d : Desk) (turn : Turn) → IfSome tpm (λ t. length (text_of kind t) < 2 ^ 32) → turn ≡ blob_given (Some kind) offset tpm d
+    → Told (take 16 (reply_spelling turn.reply turn.payload)) (drop 16 (reply_spelling turn.reply turn.payload)) kind offset d.piece tpm
+told_by kind offset None d turn small given =
+    told_of turn (no_blob BAD_ORDINAL d) (refused_fields BAD_ORDINAL) kind offset d.piece None given
+    (four-read 10 0 0 0 [] (omega arith) (omega arith) (omega arith) (omega arith)) refl refl
+told_by kind offset (Some t) d turn small given = go (nat_lt (length (text_of kind t)) offset) refl
   where
-    go : (past : Bool) → nat_lt (length (text_of kind t)) offset ≡ past → Told (take 16 (reply_spelling turn.reply turn.payload)) (drop 16 (reply_spelling turn.reply turn.payload)) kind offset room d.piece (Some t)
+    go : (past : Bool) → nat_lt (length (text_of kind t)) offset ≡ past → Told (take 16 (reply_spelling turn.reply turn.payload)) (drop 16 (reply_spelling turn.reply turn.payload)) kind offset d.piece (Some t)
     go true past =
         let text : List ℕ = text_of kind t in
         let now : turn ≡ no_blob BAD_PARAMETER d = given ∙ ap (λ (c : Bool). cond c (no_blob BAD_PARAMETER d) (piece_of text offset d)) past in
-        let gives : piece_at text offset d.piece ≡ Err (BadResult BAD_PARAMETER) = ap (λ (c : Bool). cond c (Err (BadResult BAD_PARAMETER)) (Ok (record { total = length text; length = min d.piece (length text - offset) }))) past in
-        told_of turn (no_blob BAD_PARAMETER d) (record { result = 3; flags = 0; total = 0; size = 0 }) (Err (BadResult BAD_PARAMETER)) kind offset room d.piece (Some t) now
-        (four-read 3 0 0 0 [] (omega arith) (omega arith) (omega arith) (omega arith)) refl (sym gives) refl
+        let tells : fields_at text offset d.piece ≡ refused_fields BAD_PARAMETER = ap (λ (c : Bool). cond c (refused_fields BAD_PARAMETER) (record { result = 0; flags = 0; total = length text; size = min d.piece (length text - offset) })) past in
+        told_of turn (no_blob BAD_PARAMETER d) (refused_fields BAD_PARAMETER) kind offset d.piece (Some t) now
+        (four-read 3 0 0 0 [] (omega arith) (omega arith) (omega arith) (omega arith)) (sym tells) refl
     go false past =
         let text : List ℕ = text_of kind t in
         let size : ℕ = min d.piece (length text - offset) in
         let now : turn ≡ piece_of text offset d = given ∙ ap (λ (c : Bool). cond c (no_blob BAD_PARAMETER d) (piece_of text offset d)) past in
-        let gives : piece_at text offset d.piece ≡ Ok (record { total = length text; length = size }) = ap (λ (c : Bool). cond c (Err (BadResult BAD_PARAMETER)) (Ok (record { total = length text; length = size }))) past in
-        told_of turn (piece_of text offset d) (record { result = 0; flags = 0; total = length text; size = size }) (Ok (record { total = length text; length = size })) kind offset room d.piece (Some t) now
-        (four-read 0 0 (length text) size (slice text offset size) (omega arith) (omega arith) small (omega (arith, small)))
-        (within_fits text offset d.piece room small some fits past) (sym gives) refl
+        let tells : fields_at text offset d.piece ≡ record { result = 0; flags = 0; total = length text; size = size } = ap (λ (c : Bool). cond c (refused_fields BAD_PARAMETER) (record { result = 0; flags = 0; total = length text; size = size })) past in
+        told_of turn (piece_of text offset d) (record { result = 0; flags = 0; total = length text; size = size }) kind offset d.piece (Some t) now
+        (four-read 0 0 (length text) size (slice text offset size) (omega arith) (omega arith) small (omega (arith, small))) (sym tells) refl
 
 -- the turn of a request for a piece
 turn_is : (kind : Kind) (type offset : ℕ) (d : Desk) (turn : Turn) → kind_of type ≡ Some kind → Obeys (GetStateBlob 0 type offset) [] d turn → turn ≡ blob_given (Some kind) offset d.tpm d
 turn_is kind type offset d turn is obeys = obeys ∙ ap (λ (k : Option Kind). blob_given k offset d.tpm d) is
 
--- a piece is as long as it is said to be
-given_length : (kind : Kind) (offset : ℕ) (d : Desk) (p : Piece) → piece_given kind offset d ≡ Ok p → length (bytes_given kind offset d) ≡ p.length
-given_length kind offset d p gives = ap (λ (r : Result Piece ClientFault). length (bytes_at r (text_of_tpm kind d.tpm) offset)) gives ∙ by_tpm d.tpm gives
+-- ---- the data behind the fields
+
+-- the bytes that come with the fields
+abbrev sent : Kind → ℕ → Desk → List ℕ
+sent kind offset d = slice (text_of_tpm kind d.tpm) offset (fields_told kind offset d).size
+
+-- they are as many as the fields say
+sent_length : (kind : Kind) (offset : ℕ) (d : Desk) → length (sent kind offset d) ≡ (fields_told kind offset d).size
+sent_length kind offset d = by_tpm d.tpm
   where
-    inside : (text : List ℕ) (most : ℕ) → nat_lt (length text) offset ≡ false → (q : Piece) → ◌≡◌ {A = Result Piece ClientFault} (Ok (record { total = length text; length = min most (length text - offset) })) (Ok q) → length (slice text offset q.length) ≡ q.length
-    inside text most within q same =
-        let is : q.length ≡ min most (length text - offset) = ap (λ (r : Result Piece ClientFault). length_of r) (sym same) in
-        rw is (omega (arith, length-take (min most (length text - offset)) (drop offset text), length-drop offset text))
+    by_text : (text : List ℕ) (past : Bool) (size : ℕ) → size ≤ length text - offset
+        → length (slice text offset (cond past (refused_fields BAD_PARAMETER) (record { result = 0; flags = 0; total = length text; size = size })).size) ≡ (cond past (refused_fields BAD_PARAMETER) (record { result = 0; flags = 0; total = length text; size = size })).size
+    by_text text true size most = refl
+    by_text text false size most = omega (arith, length-take size (drop offset text), length-drop offset text)
+
+    by_tpm : (tpm : Option TpmParts) → length (slice (text_of_tpm kind tpm) offset (fields_of_tpm kind offset d.piece tpm).size) ≡ (fields_of_tpm kind offset d.piece tpm).size
+    by_tpm None = refl
+    by_tpm (Some t) = by_text (text_of kind t) (nat_lt (length (text_of kind t)) offset) (min d.piece (length (text_of kind t) - offset)) (omega arith)
+
+-- a piece is as long as the fields say
+judged_size : (f : BlobFields) (offset room : ℕ) (p : Piece) → judged_fields f offset room ≡ Ok p → p.length ≡ f.size
+judged_size f offset room p is = go (not (f.result == SUCCESS)) (not (f.flags == 0)) (nat_lt f.total offset) (is_misfit f.size (f.total - offset) room) is
+  where
+    go : (refused flagged past misfit : Bool)
+        → ◌≡◌ {A = Result Piece ClientFault} (cond refused (Err (BadResult f.result)) (cond flagged (Err (BadReply FLAGS_PLACE)) (cond past (Err (BadReply TOTAL_PLACE)) (cond misfit (Err (BadReply LENGTH_PLACE)) (Ok (record { total = f.total; length = f.size })))))) (Ok p)
+        → p.length ≡ f.size
+    go true flagged past misfit is = absurd cc
+    go false true past misfit is = absurd cc
+    go false false true misfit is = absurd cc
+    go false false false true is = absurd cc
+    go false false false false is = ap length_of (sym is)
       where
         length_of : Result Piece ClientFault → ℕ
         length_of (Ok q) = q.length
         length_of (Err fault) = 0
 
-    by_text : (text : List ℕ) (most : ℕ) → piece_at text offset most ≡ Ok p → length (slice text offset p.length) ≡ p.length
-    by_text text most gives = go (nat_lt (length text) offset) refl gives
-      where
-        go : (past : Bool) → nat_lt (length text) offset ≡ past → piece_at text offset most ≡ Ok p → length (slice text offset p.length) ≡ p.length
-        go true past gives = let wrong : Err (BadResult BAD_PARAMETER) ≡ Ok p = rw past at gives in cc
-        go false past gives = inside text most past p (rw past at gives)
-
-    by_tpm : (tpm : Option TpmParts) → piece_of_tpm kind offset d.piece tpm ≡ Ok p → length (slice (text_of_tpm kind tpm) offset p.length) ≡ p.length
-    by_tpm None gives = cc
-    by_tpm (Some t) gives = by_text (text_of kind t) d.piece gives
+-- the bytes of a piece that is taken are all that come
+sent_bytes : (kind : Kind) (offset room : ℕ) (d : Desk) (p : Piece) → piece_given kind offset room d ≡ Ok p → bytes_given kind offset room d ≡ sent kind offset d
+sent_bytes kind offset room d p gives =
+    ap (λ (r : Result Piece ClientFault). bytes_at r (text_of_tpm kind d.tpm) offset) gives
+    ∙ ap (λ n. slice (text_of_tpm kind d.tpm) offset n) (judged_size (fields_told kind offset d) offset room p gives)
 
 empty : (xs : List ℕ) → length xs ≡ 0 → xs ≡ []
 empty [] none = refl
@@ -169,11 +177,11 @@ module _ {P : Type 0} (fails : P → Bool) (later : P → P) where
       go false = (met, refl)
 
   -- the request failed
-  pub not_fetched : (kind : Kind) (type offset : ℕ) (l : Link) (plan plan_now : P) (fixed old : List ℕ) (after : Option Link) → kind_of type ≡ Some kind → IsQuiet l
-      → Exchanges fails later (GetStateBlob 0 type offset) [] l plan false fixed after plan_now → Fetches fails later kind offset l plan (Err LinkFault) old old after plan_now
-  not_fetched kind type offset l plan plan_now fixed old after is quiet told =
+  not_fetched : (kind : Kind) (type offset room : ℕ) (l : Link) (plan plan_now : P) (fixed old : List ℕ) (after : Option Link) → kind_of type ≡ Some kind → IsQuiet l
+      → Exchanges fails later (GetStateBlob 0 type offset) [] l plan false fixed after plan_now → Fetches fails later kind offset room l plan (Err LinkFault) old old after plan_now
+  not_fetched kind type offset room l plan plan_now fixed old after is quiet told =
       let lost : fails_within fails later 2 plan ≡ true = negated (fails_within fails later 2 plan) told.got_is in
-      let both = two_or_three (piece_given kind offset l.desk) plan lost in
+      let both = two_or_three (piece_given kind offset room l.desk) plan lost in
       record {
         plan_is = told.plan_is ∙ sym both.1;
         link = go (fails_within fails later 1 plan) (subst (λ (b : Bool). ExchangedBy (fails_within fails later 1 plan) b (GetStateBlob 0 type offset) [] (length fixed) l fixed after) lost told.link);
@@ -185,7 +193,7 @@ module _ {P : Type 0} (fails : P → Bool) (later : P → P) where
       negated true is = refl
       negated false is = absurd cc
 
-      clash : fails_within fails later (calls_for (piece_given kind offset l.desk)) plan ≡ false → fails_within fails later (calls_for (piece_given kind offset l.desk)) plan ≡ true → ⊥
+      clash : fails_within fails later (calls_for (piece_given kind offset room l.desk)) plan ≡ false → fails_within fails later (calls_for (piece_given kind offset room l.desk)) plan ≡ true → ⊥
       clash none met = let wrong : false ≡ true = sym none ∙ met in cc
 
       go : (first : Bool) → ExchangedBy first true (GetStateBlob 0 type offset) [] (length fixed) l fixed after → after ≡ Some l
@@ -195,16 +203,16 @@ module _ {P : Type 0} (fails : P → Bool) (later : P → P) where
           here ∙ ap (λ (x : Desk). Some (record l { desk = x; control = empty_lane })) desk ∙ ap (λ (x : Lane). Some (record l { control = x })) (sym quiet.nothing)
 
   -- the fixed fields are here, and the data waits
-  pub record IsHere (kind : Kind) (offset room : ℕ) (l : Link) (plan plan_now : P) (fixed : List ℕ) (after : Option Link) : Type 0 where
-    pub none : fails_within fails later 2 plan ≡ false
-    pub plan_is : plan_now ≡ plan_after fails later 2 plan
-    pub judged : judged_fields (fields_in fixed) offset room ≡ piece_given kind offset l.desk
-    pub link : after ≡ Some (record l { control = record { begun = []; waiting = bytes_given kind offset l.desk } })
+  record IsHere (kind : Kind) (offset : ℕ) (l : Link) (plan plan_now : P) (fixed : List ℕ) (after : Option Link) : Type 0 where
+    none : fails_within fails later 2 plan ≡ false
+    plan_is : plan_now ≡ plan_after fails later 2 plan
+    read : fields_in fixed ≡ fields_told kind offset l.desk
+    link : after ≡ Some (record l { control = record { begun = []; waiting = sent kind offset l.desk } })
 
-  pub here : (kind : Kind) (type offset room : ℕ) (l : Link) (plan plan_now : P) (fixed : List ℕ) (after : Option Link) → kind_of type ≡ Some kind → HasRoom kind room l → length fixed ≡ 16
-      → Exchanges fails later (GetStateBlob 0 type offset) [] l plan true fixed after plan_now → IsHere kind offset room l plan plan_now fixed after
-  here kind type offset room l plan plan_now fixed after is ready whole told =
-      let none : fails_within fails later 2 plan ≡ false = negated (fails_within fails later 2 plan) told.got_is in
+  here : (kind : Kind) (type offset : ℕ) (l : Link) (plan plan_now : P) (fixed : List ℕ) (after : Option Link) → kind_of type ≡ Some kind → HasField kind l → length fixed ≡ 16
+      → Exchanges fails later (GetStateBlob 0 type offset) [] l plan true fixed after plan_now → IsHere kind offset l plan plan_now fixed after
+  here kind type offset l plan plan_now fixed after is ready whole told =
+      let none : fails_within fails later 2 plan ≡ false = not_true (fails_within fails later 2 plan) told.got_is in
       let first : fails_within fails later 1 plan ≡ false = less plan none in
       let link : ExchangedBy false false (GetStateBlob 0 type offset) [] 16 l fixed after =
       subst (λ (n : ℕ). ExchangedBy false false (GetStateBlob 0 type offset) [] n l fixed after) whole
@@ -212,117 +220,139 @@ module _ {P : Type 0} (fails : P → Bool) (later : P → P) where
       (subst (λ (b : Bool). ExchangedBy b (fails_within fails later 2 plan) (GetStateBlob 0 type offset) [] (length fixed) l fixed after) first told.link)) in
       go none link
     where
-      negated : (b : Bool) → true ≡ not b → b ≡ false
-      negated true is = absurd cc
-      negated false is = refl
-
       less : (plan : P) → fails_within fails later 2 plan ≡ false → fails_within fails later 1 plan ≡ false
       less plan none = let both = neither (fails plan) (fails_within fails later 1 (later plan)) none in rw both.0 refl
 
-      go : fails_within fails later 2 plan ≡ false → ExchangedBy false false (GetStateBlob 0 type offset) [] 16 l fixed after → IsHere kind offset room l plan plan_now fixed after
+      go : fails_within fails later 2 plan ≡ false → ExchangedBy false false (GetStateBlob 0 type offset) [] 16 l fixed after → IsHere kind offset l plan plan_now fixed after
       go none (turn, obeys, now, read) =
           let given = turn_is kind type offset l.desk turn is obeys in
           let desk : turn.desk ≡ l.desk = ap (λ (x : Turn). x.desk) given ∙ desk-of kind offset l.desk.tpm l.desk in
-          let facts : Told (take 16 (reply_spelling turn.reply turn.payload)) (drop 16 (reply_spelling turn.reply turn.payload)) kind offset room l.desk.piece l.desk.tpm = told_by kind offset room l.desk.tpm l.desk turn ready.total ready.some ready.fits given in
+          let facts : Told (take 16 (reply_spelling turn.reply turn.payload)) (drop 16 (reply_spelling turn.reply turn.payload)) kind offset l.desk.piece l.desk.tpm = told_by kind offset l.desk.tpm l.desk turn ready.total given in
           record {
             none = none;
             plan_is = told.plan_is;
-            judged = ap (λ (x : List ℕ). judged_fields (fields_in x) offset room) (read refl) ∙ facts.judged;
+            read = ap fields_in (read refl) ∙ facts.read;
             link = now ∙ ap (λ (x : Desk). Some (record l { desk = x; control = record { begun = []; waiting = drop 16 (reply_spelling turn.reply turn.payload) } })) desk
                 ∙ ap (λ (x : List ℕ). Some (record l { control = record { begun = []; waiting = x } })) facts.data_is;
           }
 
-  -- the fields tell no piece
-  pub not_given : (kind : Kind) (offset room : ℕ) (l : Link) (plan plan_mid plan_now : P) (fixed old : List ℕ) (mid after : Option Link) (fault : ClientFault) → IsQuiet l → IsHere kind offset room l plan plan_mid fixed mid
-      → judged_fields (fields_in fixed) offset room ≡ Err fault → after ≡ option_map (cut Ctrl) mid → plan_now ≡ plan_mid
-      → Fetches fails later kind offset l plan (Err fault) old old after plan_now
-  not_given kind offset room l plan plan_mid plan_now fixed old mid after fault quiet is none cuts planned =
-      let given : piece_given kind offset l.desk ≡ Err fault = sym is.judged ∙ none in
+  -- the answer of the fields is that of the emulator's reply
+  record Stand (kind : Kind) (offset room : ℕ) (l : Link) (plan plan_now : P) (judged : Result Piece ClientFault) (after : Option Link) : Type 0 where
+    quiet : IsQuiet l
+    none : fails_within fails later 2 plan ≡ false
+    plan_is : plan_now ≡ plan_after fails later 2 plan
+    given : piece_given kind offset room l.desk ≡ judged
+    link : after ≡ Some (record l { control = record { begun = []; waiting = sent kind offset l.desk } })
+
+  stand : (kind : Kind) (type offset room : ℕ) (l : Link) (plan plan_now : P) (fixed : List ℕ) (after : Option Link) (fields : BlobFields) (judged r : Result Piece ClientFault) (got : Bool) → kind_of type ≡ Some kind → length fixed ≡ 16 → got ≡ true
+      → (IsQuiet l → Exchanges fails later (GetStateBlob 0 type offset) [] l plan got fixed after plan_now)
+      → judged ≡ judged_fields fields offset room → judged ≡ r → fields ≡ fields_in fixed → HasField kind l → Stand kind offset room l plan plan_now r after
+  stand kind type offset room l plan plan_now fixed after fields judged r got is whole sent_it told told_fields taken read ready =
+      let exchanged : Exchanges fails later (GetStateBlob 0 type offset) [] l plan true fixed after plan_now = subst (λ (b : Bool). Exchanges fails later (GetStateBlob 0 type offset) [] l plan b fixed after plan_now) sent_it (told ready.quiet) in
+      let facts : IsHere kind offset l plan plan_now fixed after = here kind type offset l plan plan_now fixed after is ready whole exchanged in
       record {
-        plan_is = planned ∙ is.plan_is ∙ ap (λ (r : Result Piece ClientFault). plan_after fails later (calls_for r) plan) (sym given);
-        link = cuts ∙ ap (option_map (cut Ctrl)) is.link ∙ ap (λ (x : Lane). Some (record l { control = x })) (sym quiet.nothing);
-        answer_is = sym (ap (λ (r : Result Piece ClientFault). cond (fails_within fails later (calls_for r) plan) (Err LinkFault) r) given ∙ ap (λ (c : Bool). cond c (Err LinkFault) (Err fault)) is.none);
-        bytes = λ made. ap (λ (r : Result Piece ClientFault). bytes_at r (text_of_tpm kind l.desk.tpm) offset ++ drop (length (bytes_at r (text_of_tpm kind l.desk.tpm) offset)) old) (sym given);
+        quiet = ready.quiet;
+        none = facts.none;
+        plan_is = facts.plan_is;
+        given = ap (λ (f : BlobFields). judged_fields f offset room) (sym facts.read ∙ sym read) ∙ sym told_fields ∙ taken;
+        link = facts.link;
       }
+
+  -- the fields make no piece
+  not_given : (kind : Kind) (offset room : ℕ) (l : Link) (plan plan_mid plan_now : P) (old : List ℕ) (mid after : Option Link) (fault : ClientFault) → Stand kind offset room l plan plan_mid (Err fault) mid
+      → after ≡ option_map (cut Ctrl) mid → plan_now ≡ plan_mid
+      → Fetches fails later kind offset room l plan (Err fault) old old after plan_now
+  not_given kind offset room l plan plan_mid plan_now old mid after fault is cuts planned = record {
+    plan_is = planned ∙ is.plan_is ∙ ap (λ (r : Result Piece ClientFault). plan_after fails later (calls_for r) plan) (sym is.given);
+    link = cuts ∙ ap (option_map (cut Ctrl)) is.link ∙ ap (λ (x : Lane). Some (record l { control = x })) (sym is.quiet.nothing);
+    answer_is = sym (ap (λ (r : Result Piece ClientFault). cond (fails_within fails later (calls_for r) plan) (Err LinkFault) r) is.given ∙ ap (λ (c : Bool). cond c (Err LinkFault) (Err fault)) is.none);
+    bytes = λ made. ap (λ (r : Result Piece ClientFault). bytes_at r (text_of_tpm kind l.desk.tpm) offset ++ drop (length (bytes_at r (text_of_tpm kind l.desk.tpm) offset)) old) (sym is.given);
+  }
 
   -- nothing is left on the channel
   emptied : (l : Link) (count : ℕ) (bytes : List ℕ) (lost : Bool) → IsQuiet l → drop count bytes ≡ [] → ◌≡◌ {A = Option Link} (Some (received (not lost) Ctrl count (record l { control = record { begun = []; waiting = bytes } }))) (Some l)
   emptied l count bytes true quiet left = ap (λ (x : Lane). Some (record l { control = x })) (sym quiet.nothing)
   emptied l count bytes false quiet left = ap (λ (x : List ℕ). Some (record l { control = record { begun = []; waiting = x } })) left ∙ ap (λ (x : Lane). Some (record l { control = x })) (sym quiet.nothing)
 
+  -- what came of a request that was answered so, with these bytes
+  record Ends (l : Link) (plan : P) (r : Result Piece ClientFault) (front : List ℕ) (answer : Result Piece ClientFault) (old new : List ℕ) (after : Option Link) (plan_now : P) : Type 0 where
+    plan_is : plan_now ≡ plan_after fails later (calls_for r) plan
+    link : after ≡ Some l
+    answer_is : answer ≡ cond (fails_within fails later (calls_for r) plan) (Err LinkFault) r
+    bytes : fails_within fails later (calls_for r) plan ≡ false → new ≡ front ++ drop (length front) old
+
+  -- a piece is taken, by whether it has data
+  taken_whole : (l : Link) (plan plan_mid plan_now : P) (bytes old new : List ℕ) (after : Option Link) (p : Piece) (answer : Result Piece ClientFault) → IsQuiet l → fails_within fails later 2 plan ≡ false → plan_mid ≡ plan_after fails later 2 plan → length bytes ≡ p.length
+      → TakesData (nat_lt 0 p.length) fails later p (record l { control = record { begun = []; waiting = bytes } }) plan_mid answer old new after plan_now
+      → Ends l plan (Ok p) bytes answer old new after plan_now
+  taken_whole l plan plan_mid plan_now bytes old new after p answer quiet none planned whole got = go (nat_lt 0 p.length) refl got
+    where
+      go : (some : Bool) → nat_lt 0 p.length ≡ some → TakesData some fails later p (record l { control = record { begun = []; waiting = bytes } }) plan_mid answer old new after plan_now → Ends l plan (Ok p) bytes answer old new after plan_now
+      go false no_data (answered, kept, link, plan_is) =
+          let calls : calls_for (Ok p) ≡ 2 = ap (λ (b : Bool). cond b 3 2) no_data in
+          let nothing : bytes ≡ [] = empty bytes (omega (arith, whole, zero_is p.length no_data)) in
+          record {
+            plan_is = plan_is ∙ planned ∙ ap (λ n. plan_after fails later n plan) (sym calls);
+            link = link ∙ ap (λ (x : List ℕ). Some (record l { control = record { begun = []; waiting = x } })) nothing ∙ ap (λ (x : Lane). Some (record l { control = x })) (sym quiet.nothing);
+            answer_is = answered ∙ sym (ap (λ n. cond (fails_within fails later n plan) (Err LinkFault) (Ok p)) calls ∙ ap (λ (c : Bool). cond c (Err LinkFault) (Ok p)) none);
+            bytes = λ made. kept ∙ ap (λ (x : List ℕ). x ++ drop (length x) old) (sym nothing);
+          }
+      go true some_data (answered, filled, link, plan_is) =
+          let calls : calls_for (Ok p) ≡ 3 = ap (λ (b : Bool). cond b 3 2) some_data in
+          let last : fails_within fails later 3 plan ≡ fails plan_mid = last_fails fails later 2 plan none ∙ ap fails (sym planned) in
+          let all : take p.length bytes ≡ bytes = take_all p.length bytes (omega (arith, whole)) in
+          let left : drop p.length bytes ≡ [] = drop_all p.length bytes (omega (arith, whole)) in
+          record {
+            plan_is = plan_is ∙ ap later planned ∙ sym (last_plan fails later 2 plan none) ∙ ap (λ n. plan_after fails later n plan) (sym calls);
+            link = link ∙ emptied l p.length bytes (fails plan_mid) quiet left;
+            answer_is = answered ∙ sym (ap (λ n. cond (fails_within fails later n plan) (Err LinkFault) (Ok p)) calls ∙ ap (λ (c : Bool). cond c (Err LinkFault) (Ok p)) last);
+            bytes = λ made. filled (sym last ∙ ap (λ n. fails_within fails later n plan) (sym calls) ∙ made) ∙ ap (λ (x : List ℕ). x ++ drop p.length old) all ∙ ap (λ n. bytes ++ drop n old) (sym whole);
+          }
+
   -- the piece is received
-  pub given : (kind : Kind) (offset room : ℕ) (l : Link) (plan plan_mid plan_now : P) (fixed old new : List ℕ) (mid after : Option Link) (p : Piece) (answer : Result Piece ClientFault) → IsQuiet l → IsHere kind offset room l plan plan_mid fixed mid
-      → judged_fields (fields_in fixed) offset room ≡ Ok p
+  given : (kind : Kind) (offset room : ℕ) (l : Link) (plan plan_mid plan_now : P) (old new : List ℕ) (mid after : Option Link) (p : Piece) (answer : Result Piece ClientFault) → Stand kind offset room l plan plan_mid (Ok p) mid
       → IfSome mid (λ m. p.length ≤ length (at_hand Ctrl m) → TakesData (nat_lt 0 p.length) fails later p m plan_mid answer old new after plan_now)
-      → Fetches fails later kind offset l plan answer old new after plan_now
-  given kind offset room l plan plan_mid plan_now fixed old new mid after p answer quiet is some takes =
-      let gives : piece_given kind offset l.desk ≡ Ok p = sym is.judged ∙ some in
-      let bytes : List ℕ = bytes_given kind offset l.desk in
-      let whole : length bytes ≡ p.length = given_length kind offset l.desk p gives in
-      let m : Link = record l { control = record { begun = []; waiting = bytes } } in
+      → Fetches fails later kind offset room l plan answer old new after plan_now
+  given kind offset room l plan plan_mid plan_now old new mid after p answer is takes =
+      let size : p.length ≡ (fields_told kind offset l.desk).size = judged_size (fields_told kind offset l.desk) offset room p is.given in
+      let all : bytes_given kind offset room l.desk ≡ sent kind offset l.desk = sent_bytes kind offset room l.desk p is.given in
+      let whole : length (sent kind offset l.desk) ≡ p.length = sent_length kind offset l.desk ∙ sym size in
+      let m : Link = record l { control = record { begun = []; waiting = sent kind offset l.desk } } in
       let told : IfSome (Some m) (λ m. p.length ≤ length (at_hand Ctrl m) → TakesData (nat_lt 0 p.length) fails later p m plan_mid answer old new after plan_now) =
       subst (λ (o : Option Link). IfSome o (λ m. p.length ≤ length (at_hand Ctrl m) → TakesData (nat_lt 0 p.length) fails later p m plan_mid answer old new after plan_now)) is.link takes in
-      go (nat_lt 0 p.length) refl gives whole (told (omega (arith, whole)))
-    where
-      go : (is_data : Bool) → nat_lt 0 p.length ≡ is_data → piece_given kind offset l.desk ≡ Ok p → length (bytes_given kind offset l.desk) ≡ p.length
-          → TakesData (nat_lt 0 p.length) fails later p (record l { control = record { begun = []; waiting = bytes_given kind offset l.desk } }) plan_mid answer old new after plan_now
-          → Fetches fails later kind offset l plan answer old new after plan_now
-      go false none gives whole got = ends_empty
-        where
-          ends_empty : Fetches fails later kind offset l plan answer old new after plan_now
-          ends_empty =
-              let done : TakesData false fails later p (record l { control = record { begun = []; waiting = bytes_given kind offset l.desk } }) plan_mid answer old new after plan_now =
-              subst (λ (b : Bool). TakesData b fails later p (record l { control = record { begun = []; waiting = bytes_given kind offset l.desk } }) plan_mid answer old new after plan_now) none got in
-              let calls : calls_for (piece_given kind offset l.desk) ≡ 2 = ap calls_for gives ∙ ap (λ (b : Bool). cond b 3 2) none in
-              let nothing : bytes_given kind offset l.desk ≡ [] = empty (bytes_given kind offset l.desk) (omega (arith, whole, zero_is p.length none)) in
-              record {
-                plan_is = done.3 ∙ is.plan_is ∙ ap (λ n. plan_after fails later n plan) (sym calls);
-                link = done.2 ∙ ap (λ (x : List ℕ). Some (record l { control = record { begun = []; waiting = x } })) nothing ∙ ap (λ (x : Lane). Some (record l { control = x })) (sym quiet.nothing);
-                answer_is = done.0 ∙ sym (ap (λ n. cond (fails_within fails later n plan) (Err LinkFault) (piece_given kind offset l.desk)) calls ∙ ap (λ (c : Bool). cond c (Err LinkFault) (piece_given kind offset l.desk)) is.none ∙ gives);
-                bytes = λ made. done.1 ∙ ap (λ (x : List ℕ). x ++ drop (length x) old) (sym nothing);
-              }
-      go true some_data gives whole got = ends_whole
-        where
-          ends_whole : Fetches fails later kind offset l plan answer old new after plan_now
-          ends_whole =
-              let m : Link = record l { control = record { begun = []; waiting = bytes_given kind offset l.desk } } in
-              let done : TakesData true fails later p m plan_mid answer old new after plan_now =
-              subst (λ (b : Bool). TakesData b fails later p m plan_mid answer old new after plan_now) some_data got in
-              let calls : calls_for (piece_given kind offset l.desk) ≡ 3 = ap calls_for gives ∙ ap (λ (b : Bool). cond b 3 2) some_data in
-              let last : fails_within fails later 3 plan ≡ fails plan_mid = last_fails fails later 2 plan is.none ∙ ap fails (sym is.plan_is) in
-              let all : take p.length (bytes_given kind offset l.desk) ≡ bytes_given kind offset l.desk = take_all p.length (bytes_given kind offset l.desk) (omega (arith, whole)) in
-              let left : drop p.length (bytes_given kind offset l.desk) ≡ [] = drop_all p.length (bytes_given kind offset l.desk) (omega (arith, whole)) in
-              record {
-                plan_is = done.3 ∙ ap later is.plan_is ∙ sym (last_plan fails later 2 plan is.none) ∙ ap (λ n. plan_after fails later n plan) (sym calls);
-                link = done.2 ∙ emptied l p.length (bytes_given kind offset l.desk) (fails plan_mid) quiet left;
-                answer_is = done.0 ∙ sym (ap (λ n. cond (fails_within fails later n plan) (Err LinkFault) (piece_given kind offset l.desk)) calls ∙ ap (λ (c : Bool). cond c (Err LinkFault) (piece_given kind offset l.desk)) last ∙ ap (λ (r : Result Piece ClientFault). cond (fails plan_mid) (Err LinkFault) r) gives);
-                bytes = λ made. done.1 (sym last ∙ ap (λ n. fails_within fails later n plan) (sym calls) ∙ made) ∙ ap (λ (x : List ℕ). x ++ drop p.length old) all ∙ ap (λ n. bytes_given kind offset l.desk ++ drop n old) (sym whole);
-              }
+      let gives : Ends l plan (Ok p) (sent kind offset l.desk) answer old new after plan_now = taken_whole l plan plan_mid plan_now (sent kind offset l.desk) old new after p answer is.quiet is.none is.plan_is whole (told (omega (arith, whole))) in
+      let now : Ends l plan (piece_given kind offset room l.desk) (bytes_given kind offset room l.desk) answer old new after plan_now =
+      subst (λ (r : Result Piece ClientFault). Ends l plan r (bytes_given kind offset room l.desk) answer old new after plan_now) (sym is.given)
+      (subst (λ (front : List ℕ). Ends l plan (Ok p) front answer old new after plan_now) (sym all) gives) in
+      record { plan_is = now.plan_is; link = now.link; answer_is = now.answer_is; bytes = now.bytes }
 
   -- over wires that tell their link
+  pub fetch_failed : (kind : Kind) (type offset room : ℕ) (o : Option Link) (plan plan_now : P) (fixed old : List ℕ) (after : Option Link) (got : Bool) → kind_of type ≡ Some kind → got ≡ false
+      → IfSome o (λ l. IsQuiet l → Exchanges fails later (GetStateBlob 0 type offset) [] l plan got fixed after plan_now)
+      → IfSome o (λ l. HasField kind l → Fetches fails later kind offset room l plan (Err LinkFault) old old after plan_now)
+  fetch_failed kind type offset room None plan plan_now fixed old after got is lost told = tt
+  fetch_failed kind type offset room (Some l) plan plan_now fixed old after got is lost told = λ ready.
+      not_fetched kind type offset room l plan plan_now fixed old after is ready.quiet (subst (λ (b : Bool). Exchanges fails later (GetStateBlob 0 type offset) [] l plan b fixed after plan_now) lost (told ready.quiet))
+
   pub fetch_given : (kind : Kind) (type offset room : ℕ) (o : Option Link) (plan plan_mid plan_now : P) (fixed old new : List ℕ) (mid after : Option Link) (fields : BlobFields) (judged : Result Piece ClientFault) (p : Piece) (answer : Result Piece ClientFault) (got : Bool)
       → kind_of type ≡ Some kind → length fixed ≡ 16 → got ≡ true
       → IfSome o (λ l. IsQuiet l → Exchanges fails later (GetStateBlob 0 type offset) [] l plan got fixed mid plan_mid)
       → judged ≡ judged_fields fields offset room → judged ≡ Ok p → fields ≡ fields_in fixed
       → IfSome mid (λ m. p.length ≤ length (at_hand Ctrl m) → TakesData (nat_lt 0 p.length) fails later p m plan_mid answer old new after plan_now)
-      → IfSome o (λ l. HasRoom kind room l → Fetches fails later kind offset l plan answer old new after plan_now)
-  fetch_given kind type offset room None plan plan_mid plan_now fixed old new mid after fields judged p answer got is whole sent told told_fields ok read takes = tt
-  fetch_given kind type offset room (Some l) plan plan_mid plan_now fixed old new mid after fields judged p answer got is whole sent told told_fields ok read takes = λ ready.
-      let exchanged : Exchanges fails later (GetStateBlob 0 type offset) [] l plan true fixed mid plan_mid = subst (λ (b : Bool). Exchanges fails later (GetStateBlob 0 type offset) [] l plan b fixed mid plan_mid) sent (told ready.quiet) in
-      let facts : IsHere kind offset room l plan plan_mid fixed mid = here kind type offset room l plan plan_mid fixed mid is ready whole exchanged in
-      given kind offset room l plan plan_mid plan_now fixed old new mid after p answer ready.quiet facts
-      (ap (λ (f : BlobFields). judged_fields f offset room) (sym read) ∙ sym told_fields ∙ ok) takes
+      → IfSome o (λ l. HasField kind l → Fetches fails later kind offset room l plan answer old new after plan_now)
+  fetch_given kind type offset room None plan plan_mid plan_now fixed old new mid after fields judged p answer got is whole sent_it told told_fields ok read takes = tt
+  fetch_given kind type offset room (Some l) plan plan_mid plan_now fixed old new mid after fields judged p answer got is whole sent_it told told_fields ok read takes = λ ready.
+      given kind offset room l plan plan_mid plan_now old new mid after p answer
+      (stand kind type offset room l plan plan_mid fixed mid fields judged (Ok p) got is whole sent_it told told_fields ok read ready) takes
 
   pub fetch_refused : (kind : Kind) (type offset room : ℕ) (o : Option Link) (plan plan_mid plan_now : P) (fixed old : List ℕ) (mid after : Option Link) (fields : BlobFields) (judged : Result Piece ClientFault) (fault : ClientFault) (got : Bool)
       → kind_of type ≡ Some kind → length fixed ≡ 16 → got ≡ true
       → IfSome o (λ l. IsQuiet l → Exchanges fails later (GetStateBlob 0 type offset) [] l plan got fixed mid plan_mid)
       → judged ≡ judged_fields fields offset room → judged ≡ Err fault → fields ≡ fields_in fixed
       → after ≡ option_map (cut Ctrl) mid → IfSome mid (λ m. plan_now ≡ plan_mid)
-      → IfSome o (λ l. HasRoom kind room l → Fetches fails later kind offset l plan (Err fault) old old after plan_now)
-  fetch_refused kind type offset room None plan plan_mid plan_now fixed old mid after fields judged fault got is whole sent told told_fields err read cuts planned = tt
-  fetch_refused kind type offset room (Some l) plan plan_mid plan_now fixed old mid after fields judged fault got is whole sent told told_fields err read cuts planned = λ ready.
-      let exchanged : Exchanges fails later (GetStateBlob 0 type offset) [] l plan true fixed mid plan_mid = subst (λ (b : Bool). Exchanges fails later (GetStateBlob 0 type offset) [] l plan b fixed mid plan_mid) sent (told ready.quiet) in
-      let facts : IsHere kind offset room l plan plan_mid fixed mid = here kind type offset room l plan plan_mid fixed mid is ready whole exchanged in
+      → IfSome o (λ l. HasField kind l → Fetches fails later kind offset room l plan (Err fault) old old after plan_now)
+  fetch_refused kind type offset room None plan plan_mid plan_now fixed old mid after fields judged fault got is whole sent_it told told_fields err read cuts planned = tt
+  fetch_refused kind type offset room (Some l) plan plan_mid plan_now fixed old mid after fields judged fault got is whole sent_it told told_fields err read cuts planned = λ ready.
+      let facts : Stand kind offset room l plan plan_mid (Err fault) mid = stand kind type offset room l plan plan_mid fixed mid fields judged (Err fault) got is whole sent_it told told_fields err read ready in
       let same : plan_now ≡ plan_mid = subst (λ (o : Option Link). IfSome o (λ m. plan_now ≡ plan_mid)) facts.link planned in
-      not_given kind offset room l plan plan_mid plan_now fixed old mid after fault ready.quiet facts
-      (ap (λ (f : BlobFields). judged_fields f offset room) (sym read) ∙ sym told_fields ∙ err) cuts same
+      not_given kind offset room l plan plan_mid plan_now old mid after fault facts cuts same

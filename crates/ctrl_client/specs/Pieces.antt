@@ -45,19 +45,27 @@ pub record IsPiece (offset room : ℕ) (p : Piece) : Type 0 where
 abbrev pub IsPlace : ℕ → Type 0
 IsPlace place = (place ≡ FLAGS_PLACE) ⊎ ((place ≡ TOTAL_PLACE) ⊎ (place ≡ LENGTH_PLACE))
 
--- what the emulator gives of a TPM's blob
-abbrev pub piece_at : List ℕ → ℕ → ℕ → Result Piece ClientFault
-piece_at text offset most =
-    if nat_lt (length text) offset then Err (BadResult BAD_PARAMETER)
-    else Ok (record { total = length text; length = min most (length text - offset) })
+-- the fields of a reply that gives nothing of a blob
+abbrev pub refused_fields : ℕ → BlobFields
+refused_fields result = record { result = result; flags = 0; total = 0; size = 0 }
 
-abbrev pub piece_of_tpm : Kind → ℕ → ℕ → Option TpmParts → Result Piece ClientFault
-piece_of_tpm kind offset most None = Err (BadResult BAD_ORDINAL)
-piece_of_tpm kind offset most (Some t) = piece_at (text_of kind t) offset most
+-- those of a reply that gives a piece of this blob, as long as the emulator gives one
+abbrev pub fields_at : List ℕ → ℕ → ℕ → BlobFields
+fields_at text offset most =
+    if nat_lt (length text) offset then refused_fields BAD_PARAMETER
+    else record { result = SUCCESS; flags = 0; total = length text; size = min most (length text - offset) }
 
--- what it gives, and the bytes themselves
-abbrev pub piece_given : Kind → ℕ → Desk → Result Piece ClientFault
-piece_given kind offset d = piece_of_tpm kind offset d.piece d.tpm
+abbrev pub fields_of_tpm : Kind → ℕ → ℕ → Option TpmParts → BlobFields
+fields_of_tpm kind offset most None = refused_fields BAD_ORDINAL
+fields_of_tpm kind offset most (Some t) = fields_at (text_of kind t) offset most
+
+-- the fields that the emulator's reply has
+abbrev pub fields_told : Kind → ℕ → Desk → BlobFields
+fields_told kind offset d = fields_of_tpm kind offset d.piece d.tpm
+
+-- the answer that they make with so much room, and the bytes that come with it
+abbrev pub piece_given : Kind → ℕ → ℕ → Desk → Result Piece ClientFault
+piece_given kind offset room d = judged_fields (fields_told kind offset d) offset room
 
 abbrev pub bytes_at : Result Piece ClientFault → List ℕ → ℕ → List ℕ
 bytes_at (Ok p) text offset = slice text offset p.length
@@ -67,28 +75,27 @@ abbrev pub text_of_tpm : Kind → Option TpmParts → List ℕ
 text_of_tpm kind None = []
 text_of_tpm kind (Some t) = text_of kind t
 
-abbrev pub bytes_given : Kind → ℕ → Desk → List ℕ
-bytes_given kind offset d = bytes_at (piece_given kind offset d) (text_of_tpm kind d.tpm) offset
+abbrev pub bytes_given : Kind → ℕ → ℕ → Desk → List ℕ
+bytes_given kind offset room d = bytes_at (piece_given kind offset room d) (text_of_tpm kind d.tpm) offset
 
--- a call for the request, one for the fixed fields, and one for data, if there is any
+-- a call for the request, one for the fixed fields, and one for data, if a piece with data is taken
 abbrev pub calls_for : Result Piece ClientFault → ℕ
 calls_for (Ok p) = if nat_lt 0 p.length then 3 else 2
 calls_for (Err fault) = 2
 
--- a link that is quiet, to an emulator whose pieces have room, and whose blob's length fits its field
-pub record HasRoom (kind : Kind) (most : ℕ) (l : Link) : Type 0 where
+-- a link that is quiet, to an emulator whose blob's length fits its field
+pub record HasField (kind : Kind) (l : Link) : Type 0 where
   pub quiet : IsQuiet l
   pub total : IfSome l.desk.tpm (λ t. length (text_of kind t) < 2 ^ 32)
-  pub some : 0 < l.desk.piece
-  pub fits : l.desk.piece ≤ most
 
--- One piece is asked for, and its bytes stand in front. The emulator and the link stay as they were.
-pub record Fetches {P : Type 0} (fails : P → Bool) (later : P → P) (kind : Kind) (offset : ℕ) (l : Link) (plan : P) (answer : Result Piece ClientFault) (old new : List ℕ) (after : Option Link) (plan_now : P) : Type 0 where
-  pub plan_is : plan_now ≡ plan_after fails later (calls_for (piece_given kind offset l.desk)) plan
+-- One piece is asked for, and judged by the fields of the reply. Where it is taken its bytes stand in front. The emulator
+-- and the link stay as they were: of a reply that isn't taken no byte waits.
+pub record Fetches {P : Type 0} (fails : P → Bool) (later : P → P) (kind : Kind) (offset room : ℕ) (l : Link) (plan : P) (answer : Result Piece ClientFault) (old new : List ℕ) (after : Option Link) (plan_now : P) : Type 0 where
+  pub plan_is : plan_now ≡ plan_after fails later (calls_for (piece_given kind offset room l.desk)) plan
   pub link : after ≡ Some l
-  pub answer_is : answer ≡ (if fails_within fails later (calls_for (piece_given kind offset l.desk)) plan then Err LinkFault else piece_given kind offset l.desk)
-  pub bytes : fails_within fails later (calls_for (piece_given kind offset l.desk)) plan ≡ false
-      → new ≡ bytes_given kind offset l.desk ++ drop (length (bytes_given kind offset l.desk)) old
+  pub answer_is : answer ≡ (if fails_within fails later (calls_for (piece_given kind offset room l.desk)) plan then Err LinkFault else piece_given kind offset room l.desk)
+  pub bytes : fails_within fails later (calls_for (piece_given kind offset room l.desk)) plan ≡ false
+      → new ≡ bytes_given kind offset room l.desk ++ drop (length (bytes_given kind offset room l.desk)) old
 
 -- by whether there is data: it was received over this link, or the call failed
 abbrev pub TakesData : {P : Type 0} → Bool → (P → Bool) → (P → P) → Piece → Link → P → Result Piece ClientFault → List ℕ → List ℕ → Option Link → P → Type 0

@@ -7,34 +7,26 @@
 //! }
 //! let size = set_buffer(&mut wires, 2048)?;
 //! init(&mut wires, 0)?;
-//!
 //! // Commands go over the other channel of the wires. One that takes too long is cancelled.
 //! cancel(&mut wires)?;
-//!
-//! // The volatile state, a piece at a time.
-//! let mut into = [0; LARGEST_PIECE];
-//! let mut at = 0;
+//! // The volatile state, a piece at a time: piece.length bytes of piece.total stand at the front of `into`.
+//! let (mut into, mut at) = ([0; LARGEST_PIECE], 0);
 //! loop {
 //!     let piece = get_piece(&mut wires, Kind::Volatile, at, &mut into)?;
-//!     // piece.length bytes of piece.total stand at the front of `into`
 //!     at += piece.length;
-//!     if at == piece.total {
-//!         break;
-//!     }
+//!     if at == piece.total { break; }
 //! }
 //! stop(&mut wires)?;
 //! ```
 //!
 //! Each call sends one request and takes its whole reply before it ends. [`ClientFault`] says why there was no good one: a
-//! call on the wires failed, the emulator refused the request with a result that isn't 0, or a field of the reply can't
-//! stand. The requests and replies are those of `ctrl_codec`; what the emulator does with each is a definition of this
-//! crate, and the emulator is proved against the same one.
+//! call on the wires failed, the emulator answered a result that isn't 0, or a field of the reply can't stand. The messages
+//! are those of `ctrl_codec`; what the emulator does with each is a definition of this crate, which it is proved against.
 //!
 //! The wires are left to the caller: [`Wires`] says what a send, a receive and a cut have to do. Where a send fails the
-//! emulator never saw the request, and where a receive fails it obeyed the request and its reply is lost.
-//! [`ClientFault::Link`] doesn't say which, so a request that it answers may have been obeyed; where that matters, the
-//! caller has to ask the emulator. Nothing is sent twice here. Where [`get_piece`] answers another fault, the control
-//! channel is cut, so that no byte of that reply is taken for the next one.
+//! emulator never saw the request; where a receive fails it obeyed it, and the reply is lost. [`ClientFault::Link`] doesn't
+//! say which: where it matters whether the request was obeyed, ask the emulator. Nothing is sent twice here. Where
+//! [`get_piece`] answers another fault, the control channel is cut, so that no byte of that reply is taken for the next.
 #![tactic(auto)]
 
 mod client;

@@ -4,7 +4,7 @@ ghost use Rattle.vt_base.specs.Faults.{Rose};
 ghost use Rattle.tpm_frame.specs.Frame.{number_at};
 ghost use Rattle.std.specs.Int.{w32};
 ghost use Rattle.ctrl_client.specs.Link.{empty_lane, at_hand};
-ghost use Rattle.ctrl_client.specs.Pieces.{judged_fields, IsPiece, IsPlace, HasRoom, Fetches, TakesData, IsSized, Sizes};
+ghost use Rattle.ctrl_client.specs.Pieces.{judged_fields, IsPiece, IsPlace, HasField, Fetches, TakesData, IsSized, Sizes};
 
 use crate::client::{exchange, type_of};
 use crate::fault::ClientFault;
@@ -77,17 +77,17 @@ impl Fields {
 }
 
 /// Asks for a piece of a blob, from this place on, and puts its bytes in front of `into`. The emulator says how long a piece
-/// is; one that is longer than `into` is answered as a reply that can't stand.
+/// is; one that is longer than `into`, or has none of the bytes that are left, is answered as a reply that can't stand.
 pub fn get_piece<W: Wires>(
     wires: &mut W,
     kind: Kind,
     offset: u32,
     into: &mut [u8],
 ) -> Result<Piece, ClientFault>
-    // Over wires that tell their link, while no byte waits on the control channel and it is open, and where a piece of the
-    // emulator has room.
-    ensures told { IfSome (W.link wires.old) (λ l. HasRoom kind (length into.old) l
-        → Fetches W.fails W.later kind offset l (W.plan wires.old) result into.old into.new (W.link wires.new) (W.plan wires.new)) }
+    // Over wires that tell their link, while no byte waits on the control channel and it is open, and where the blob's
+    // length fits its field: the answer is the one that the fields of the emulator's reply make.
+    ensures told { IfSome (W.link wires.old) (λ l. HasField kind l
+        → Fetches W.fails W.later kind offset (length into.old) l (W.plan wires.old) result into.old into.new (W.link wires.new) (W.plan wires.new)) }
 
     // Over any wires.
     ensures piece { IfOk result (IsPiece offset (length into.old)) }

@@ -1,6 +1,11 @@
 use Rattle.std.proofs.Common.{rules, length}
-use Rattle.ctrl_client.proofs.Fetching.{fetch_given, fetch_refused}
+use Rattle.ctrl_client.proofs.Fetching.{fetch_failed, fetch_given, fetch_refused}
 use Rattle.ctrl_client.proofs.pieces.get_piece.Goals as goal
+
+pub returns-then-is_err-clause-told : goal.returns-then-is_err-clause-told
+returns-then-is_err-clause-told g c =
+    fetch_failed g.W.Wires.fails g.W.Wires.later c.args.kind c.type_of.result c.args.offset (length c.args.into.now) (g.W.Wires.link c.args.wires.now) _ _ c.exchange.new.reply c.args.into.now
+    _ _ c.type_of.ensures.kind c.if-is_err.ensures.negation c.exchange.ensures.told
 
 pub returns-in-Ok-clause-told : goal.returns-in-Ok-clause-told
 returns-in-Ok-clause-told g c =
