@@ -2,4 +2,5 @@ pub mod Phases
 pub mod Content
 pub mod State
 pub mod Steps
+pub mod Values
 pub mod Over

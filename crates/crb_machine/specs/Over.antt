@@ -1,5 +1,5 @@
 -- A device over any port: what each call does to the device's own values, and what it does at the port. (Own definitions.)
-use Rattle.std.specs.Prelude.{◌≡◌, ◌-◌, ℕ, List, [], Bool, true, not, Option, Some, None, is_some, option_map, IfSome, Result, Ok, Err, unwrap_or}
+use Rattle.std.specs.Prelude.{◌≡◌, ◌-◌, ℕ, List, [], Bool, true, false, not, Option, Some, None, is_some, option_map, IfSome, Result, Ok, Err, unwrap_or}
 use Rattle.vt_base.specs.Buffer.{zeros}
 use Rattle.crb_regs.specs.LittleEndian.{byte_of}
 use Rattle.crb_regs.specs.Access.{Access}
@@ -7,7 +7,7 @@ use Rattle.crb_regs.specs.Effects.{effect}
 use Rattle.crb_regs.specs.Registers.{is_executing}
 use Rattle.crb_regs.specs.declared.registers.Regs.{Regs}
 use Rattle.crb_regs.specs.declared.phase.Phase.{Phase}
-use Rattle.crb_regs.specs.declared.phase.Phase.TheVariants.{Idle, Lost}
+use Rattle.crb_regs.specs.declared.phase.Phase.TheVariants.{Idle, Execution, Lost}
 use Rattle.crb_regs.specs.declared.effect.Effect.{Effect}
 use Rattle.crb_regs.specs.declared.effect.Effect.TheVariants.{Buffer, CmdReady, GoIdle, Start, Cancel}
 use Rattle.crb_port.specs.Known.{Known}
@@ -21,6 +21,7 @@ use Rattle.crb_machine.specs.Phases.{next_phase, granted_after, cancel_after}
 use Rattle.crb_machine.specs.Content.{overwritten}
 use Rattle.crb_machine.specs.State.{DeviceState, Slot}
 use Rattle.crb_machine.specs.State.Slot.{Home, Queued, Claimed, Answered}
+use Rattle.crb_machine.specs.Values.{held_values, waiting_job}
 use Rattle.crb_machine.specs.Steps.{ended_phase, reset_regs, page_byte, number_after}
 use Rattle.crb_machine.specs.declared.parts.DeviceParts.{DeviceParts}
 use Rattle.crb_machine.specs.declared.device.NotYet.{NotYet}
@@ -32,10 +33,15 @@ IsNumbered number (standing.Waiting job) = job.number ≡ number
 IsNumbered number (standing.Claimed claimed) = claimed ≡ number
 IsNumbered number (standing.Answered answer) = answer.number ≡ number
 
--- the port is free exactly where the buffer is home, and that is where no command is executed
+-- The port is free exactly where the buffer is home: in a held device always, otherwise where no command is executed. Only
+-- a held device has the mark of a job, while its command is executed. The buffer of an idle device is zeros.
 pub record IsSound {P : Type 0} (known : P → Known) (d : DeviceParts P) : Type 0 where
   pub port : (known d.port).is_free ≡ is_some d.home
-  pub phase : is_executing d.regs.phase ≡ not (is_some d.home)
+  pub held : d.held ≡ true → is_some d.home ≡ true
+  pub phase : d.held ≡ false → is_executing d.regs.phase ≡ not (is_some d.home)
+  pub mark : d.held ≡ false → d.cancelled ≡ false
+  pub waits : d.cancelled ≡ true → d.regs.phase ≡ Execution
+  pub idle : d.regs.phase ≡ Idle → d.home ≡ Some (zeros 3968)
   pub number : IfSome (known d.port).state (IsNumbered d.number)
 
 -- where the buffer is, by whether it is home and by what stands in the port
@@ -71,16 +77,17 @@ pub record OwnParts : Type 0 where
   pub regs : Regs
   pub number : ℕ
   pub home : Option (List ℕ)
+  pub held : Bool
+  pub cancelled : Bool
 
 -- the device's own values
 abbrev pub own_parts : {P : Type 0} → DeviceParts P → OwnParts
-own_parts d = record { regs = d.regs; number = d.number; home = d.home }
+own_parts d = record { regs = d.regs; number = d.number; home = d.home; held = d.held; cancelled = d.cancelled }
 
 -- the device with this answer home
 abbrev pub with_answer : {P : Type 0} → Answer → DeviceParts P → P → DeviceParts P
-with_answer answer d port = record {
+with_answer answer d port = record d {
   regs = record d.regs { phase = ended_phase answer.outcome };
-  number = d.number;
   home = Some answer.buf;
   port = port;
 }
@@ -125,7 +132,7 @@ AtPort known _ number d home port = port ≡ d.port
 abbrev pub Acts : {P : Type 0} → (P → Known) → Option Phase → Effect → Access → DeviceParts P → DeviceParts P → Type 0
 Acts known None f a d e = e ≡ d
 Acts known (Some phase) f a d e =
-    (e ≡ record { regs = regs_after f phase d.regs; number = number_after f d.number; home = home_after f a d.home; port = e.port })
+    (e ≡ record d { regs = regs_after f phase d.regs; number = number_after f d.number; home = home_after f a d.home; port = e.port })
     × AtPort known f (number_after f d.number) d d.home e.port
 
 -- what a write does once an answer that stood is home
@@ -138,18 +145,18 @@ WritesTo known d a e =
 abbrev pub Writes : {P : Type 0} → (P → Known) → DeviceParts P → Access → DeviceParts P → Type 0
 Writes {P} known d a e = (settled : DeviceParts P) × Settles known d settled × WritesTo known settled a e
 
--- the device once it pulled home what stood in its port: a job that was never executed leaves it idle
+-- the device once it pulled home what stood in its port: a job that was never executed keeps its mark
 abbrev pub HomeBy : {P : Type 0} → Pull → DeviceParts P → DeviceParts P → Type 0
-HomeBy (pulled.Job job) d e = e ≡ record { regs = record d.regs { phase = Idle }; number = d.number; home = Some job.buf; port = e.port }
-HomeBy (pulled.Answer answer) d e = e ≡ with_answer answer d e.port
+HomeBy (pulled.Job job) d e = e ≡ record d { home = Some job.buf; held = true; cancelled = job.cancelled; port = e.port }
+HomeBy (pulled.Answer answer) d e = e ≡ record (with_answer answer d e.port) { held = true }
 HomeBy _ d e = ⊥
 
--- the buffer was brought home by a pull; where it was home nothing was done
+-- the buffer was brought home by a pull; where it was home the port was left alone
 abbrev pub ComesHomeAt : {P : Type 0} → Option (List ℕ) → (P → Known) → DeviceParts P → DeviceParts P → Type 0
-ComesHomeAt (Some buf) known d e = e ≡ d
+ComesHomeAt (Some buf) known d e = e ≡ record d { held = true }
 ComesHomeAt None known d e = (found : Pull) × Pulls (known d.port) found (known e.port) × HomeBy found d e
 
--- the buffer was brought home
+-- the buffer was brought home, and the device is held
 abbrev pub ComesHome : {P : Type 0} → (P → Known) → DeviceParts P → DeviceParts P → Type 0
 ComesHome known d e = ComesHomeAt d.home known d e
 
@@ -159,16 +166,32 @@ pub record IsBusy {P : Type 0} (known : P → Known) (d e : DeviceParts P) : Typ
   pub pulls : Pulls (known d.port) pulled.Busy (known e.port)
   pub same : e ≡ record d { port = e.port }
 
--- the device with the reset values, by its phase: one that is lost stays as it is
-abbrev pub reset_parts_at : {P : Type 0} → Phase → DeviceParts P → DeviceParts P
-reset_parts_at Lost d = d
-reset_parts_at _ d = record d { regs = reset_regs; home = Some (zeros 3968) }
+-- a stop: the buffer was brought home, or the job is claimed
+abbrev pub Stops : {P : Type 0} → (P → Known) → DeviceParts P → Result Unit NotYet → DeviceParts P → Type 0
+Stops known d (Ok done) e = ComesHome known d e
+Stops known d (Err not_yet) e = (not_yet ≡ record { number = d.number }) × IsBusy known d e
 
--- the device with the reset values
+-- the held device goes on, by whether a command is executed: its job is queued again, with its bytes and its mark
+abbrev pub GoesOnIf : {P : Type 0} → Bool → (P → Known) → DeviceParts P → DeviceParts P → Type 0
+GoesOnIf true known d e =
+    (e ≡ record d { home = None; held = false; cancelled = false; port = e.port })
+    × Queues (known d.port) (waiting_job (held_values d)) (known e.port)
+GoesOnIf false known d e = e ≡ record d { held = false; cancelled = false }
+
+-- the held device goes on
+abbrev pub GoesOn : {P : Type 0} → (P → Known) → DeviceParts P → DeviceParts P → Type 0
+GoesOn known d e = GoesOnIf (is_executing d.regs.phase) known d e
+
+-- the stopped device with the reset values, by its phase: one that is lost keeps its own
+abbrev pub reset_parts_at : {P : Type 0} → Phase → DeviceParts P → DeviceParts P
+reset_parts_at Lost d = record d { held = false; cancelled = false }
+reset_parts_at _ d = record d { regs = reset_regs; home = Some (zeros 3968); held = false; cancelled = false }
+
+-- the stopped device with the reset values
 abbrev pub reset_parts : {P : Type 0} → DeviceParts P → DeviceParts P
 reset_parts d = reset_parts_at d.regs.phase d
 
--- a reset: the buffer was brought home and the reset values given, or the job is claimed
+-- a reset: a stop that brought the buffer home, and then the reset values; or the job is claimed
 abbrev pub Resets : {P : Type 0} → (P → Known) → DeviceParts P → Result Unit NotYet → DeviceParts P → Type 0
-Resets {P} known d (Ok done) e = (home : DeviceParts P) × ComesHome known d home × (e ≡ reset_parts home)
+Resets {P} known d (Ok done) e = (stopped : DeviceParts P) × ComesHome known d stopped × (e ≡ reset_parts stopped)
 Resets known d (Err not_yet) e = (not_yet ≡ record { number = d.number }) × IsBusy known d e

@@ -1,9 +1,11 @@
 //! The device.
-ghost use Rattle.std.specs.Prelude.{◌≡◌, ◌^◌, ◌<◌, true, Some, None, Ok, IfOk, IfSome, IsSome, IsSomeAnd, IsNone};
+ghost use Rattle.std.specs.Prelude.{◌≡◌, ◌≢◌, ◌^◌, ◌<◌, ◌≤◌, [], length, true, false, Some, None, Ok, IfOk, IfErr, IfSome, OnOk, OnErr, IsSome, IsSomeAnd, IsNone};
 ghost use Rattle.crb_regs.specs.LittleEndian.{number_at};
-ghost use Rattle.vt_base.specs.Buffer.{zeros};
+ghost use Rattle.vt_base.specs.Buffer.{zeros, followed_by_zeros};
+ghost use Rattle.crb_regs.specs.Registers.{is_lost};
 ghost use Rattle.crb_machine.specs.Steps.{reset_regs, fresh_state, collected, written, device_byte, after_reset, reset_reply, failed, answered, TakesJob};
-ghost use Rattle.crb_machine.specs.Over.{IsSound, HasInHand, Settles, Writes, Resets, own_byte, state_of};
+ghost use Rattle.crb_machine.specs.Values.{AreFit, values_at, device_of, held_values};
+ghost use Rattle.crb_machine.specs.Over.{IsSound, HasInHand, Settles, Writes, Resets, Stops, GoesOn, own_byte, state_of};
 ghost use Rattle.crb_port.specs.Calls.{KeepsWorker, Claims, Posts};
 
 use crate::parts::DeviceParts;
@@ -41,7 +43,7 @@ impl<P: Port + Drop> Device<P> {
     pub fn new(alloc: Global, port: P) -> Result<Device<P>, AllocError>
         requires free { (P.known port).is_free ≡ true }
 
-        ensures fresh { IfOk result (λ d. d ≡ record { regs = reset_regs; number = 0; home = Some (zeros 3968); port = port }) }
+        ensures fresh { IfOk result (λ d. d ≡ record { regs = reset_regs; number = 0; home = Some (zeros 3968); held = false; cancelled = false; port = port }) }
         ensures sound { IfOk result (IsSound P.known) }
         ensures hand { IfOk result (HasInHand P.known) }
 
@@ -54,6 +56,8 @@ impl<P: Port + Drop> Device<P> {
                 regs: Regs::reset(),
                 number: 0,
                 home: Some(buf),
+                held: false,
+                cancelled: false,
                 port,
             },
         })
@@ -64,8 +68,10 @@ impl<P: Port> Device<P> {
     /// A read of the guest: an answer that stands is taken home, and the little-endian number of the bytes of the
     /// page is given, each byte by itself.
     pub fn read(&mut self, a: &Access) -> u64
-        requires { IsNone a.now.write }
+        requires runs { self.old.held ≡ false }
+        requires reads { IsNone a.now.write }
 
+        ensures runs { self.new.held ≡ false }
         ensures settles { Settles P.known self.old self.new }
         ensures worker { KeepsWorker (P.known self.old.port) (P.known self.new.port) }
         ensures value { result ≡ number_at (own_byte self.new) a.now.offset a.now.size }
@@ -84,8 +90,10 @@ impl<P: Port> Device<P> {
 
     /// A write of the guest: an answer that stands is taken home, and then the phase table says what is done.
     pub fn write(&mut self, a: &Access)
-        requires { IsSome a.now.write }
+        requires runs { self.old.held ≡ false }
+        requires writes { IsSome a.now.write }
 
+        ensures runs { self.new.held ≡ false }
         ensures writes { Writes P.known self.old a.now self.new }
         ensures worker { KeepsWorker (P.known self.old.port) (P.known self.new.port) }
         ensures sound { IsSound P.known self.new }
@@ -103,6 +111,9 @@ impl<P: Port> Device<P> {
     /// buffer get the reset values. The number is kept. A device that is lost, or is so once the answer is home, stays
     /// lost.
     pub fn reset(&mut self) -> Result<(), NotYet>
+        requires runs { self.old.held ≡ false }
+
+        ensures runs { self.new.held ≡ false }
         ensures resets { Resets P.known self.old result self.new }
         ensures worker { KeepsWorker (P.known self.old.port) (P.known self.new.port) }
         ensures lost { self.old.regs.phase ≡ Phase.Lost → (result ≡ Ok tt) × (self.new ≡ self.old) }
@@ -119,8 +130,10 @@ impl<P: Port> Device<P> {
 
     /// The device is given up: it is lost, and stays so. Its port has to be free, so that no command is under way.
     pub fn fail(&mut self)
+        requires runs { self.old.held ≡ false }
         requires free { (P.known self.old.port).is_free ≡ true }
 
+        ensures runs { self.new.held ≡ false }
         ensures failed { self.new ≡ record self.old { regs = record self.old.regs { phase = Phase.Lost } } }
         ensures sound { IsSound P.known self.new }
         ensures hand { HasInHand P.known self.new }
@@ -143,6 +156,132 @@ impl<P: Port> Device<P> {
         ensures { result ≡ self.now.number }
     {
         self.parts.number
+    }
+
+    /// The guest is stopped, for a suspension or a move: an answer that stands, or a job that nobody claimed, is taken
+    /// home, and no access is taken until the device goes on. Such a job keeps its bytes and its mark, and waits in the
+    /// device. Where the job is claimed nothing is done.
+    pub fn stop(&mut self) -> Result<(), NotYet>
+        requires runs { self.old.held ≡ false }
+
+        ensures held { OnOk result (self.new.held ≡ true) }
+        ensures runs { OnErr result (self.new.held ≡ false) }
+        ensures free { OnOk result ((P.known self.new.port).is_free ≡ true) }
+        ensures stops { Stops P.known self.old result self.new }
+        ensures worker { KeepsWorker (P.known self.old.port) (P.known self.new.port) }
+        ensures sound { IsSound P.known self.new }
+        ensures hand { HasInHand P.known self.new }
+        ensures rest { P.rest self.new.port ≡ P.rest self.old.port }
+
+        // Over a port that tells its state.
+        ensures told_values { IfOk result (λ _. IfSome (state_of P.known self.old) (λ d. held_values self.new ≡ values_at (collected d))) }
+        ensures told_result { IfSome (state_of P.known self.old) (λ d. result ≡ reset_reply d) }
+        ensures told_busy { IfErr result (λ _. state_of P.known self.new ≡ state_of P.known self.old) }
+    {
+        self.parts.stop()
+    }
+
+    /// The guest goes on: where a command is executed its job waits again, with its number, its bytes and its mark.
+    pub fn go_on(&mut self)
+        requires held { self.old.held ≡ true }
+
+        ensures runs { self.new.held ≡ false }
+        ensures goes_on { GoesOn P.known self.old self.new }
+        ensures worker { KeepsWorker (P.known self.old.port) (P.known self.new.port) }
+        ensures sound { IsSound P.known self.new }
+        ensures hand { HasInHand P.known self.new }
+        ensures rest { P.rest self.new.port ≡ P.rest self.old.port }
+
+        // Over a port that tells its state.
+        ensures told { IfSome (state_of P.known self.new) (λ e. e ≡ device_of (held_values self.old)) }
+    {
+        self.parts.go_on();
+    }
+
+    /// Whether the guest is stopped.
+    pub fn is_held(&self) -> bool
+        ensures { result ≡ self.now.held }
+    {
+        self.parts.held
+    }
+
+    /// Whether the held device has access granted.
+    pub fn granted(&self) -> bool
+        requires held { self.now.held ≡ true }
+        ensures { result ≡ (held_values self.now).granted }
+    {
+        self.parts.regs.granted
+    }
+
+    /// The held device's value of CANCEL.
+    pub fn cancel_bit(&self) -> bool
+        requires held { self.now.held ≡ true }
+        ensures { result ≡ (held_values self.now).cancel }
+    {
+        self.parts.regs.cancel
+    }
+
+    /// Whether the job is cancelled that waits in the held device; false where none does.
+    pub fn waiting_cancelled(&self) -> bool
+        requires held { self.now.held ≡ true }
+        ensures { result ≡ (held_values self.now).cancelled }
+    {
+        self.parts.cancelled
+    }
+
+    /// All bytes of the held device's buffer.
+    pub fn content(&self) -> &[u8]
+        requires held { self.now.held ≡ true }
+
+        ensures value { result.now ≡ (held_values self.now).content }
+        ensures size { length result.now ≡ 3968 }
+
+        // Only a lost device has values that no other can have.
+        ensures fit { is_lost self.now.regs.phase ≡ false → AreFit (held_values self.now) }
+    {
+        self.parts.content()
+    }
+
+    /// The held device gets these values, and a buffer of these bytes followed by zeros.
+    pub fn restore(
+        &mut self,
+        granted: bool,
+        cancel: bool,
+        phase: Phase,
+        cancelled: bool,
+        number: u64,
+        content: &[u8],
+    )
+        requires held { self.old.held ≡ true }
+        requires working { phase ≢ Phase.Lost }
+        requires size { length content.now ≤ 3968 }
+        requires idle { phase ≡ Phase.Idle → content.now ≡ [] }
+        requires waits { cancelled ≡ true → phase ≡ Phase.Execution }
+
+        ensures held { self.new.held ≡ true }
+        ensures values { held_values self.new ≡ record {
+          granted = granted;
+          cancel = cancel;
+          phase = phase;
+          cancelled = cancelled;
+          content = followed_by_zeros content.now;
+          number = number;
+        } }
+        ensures port { self.new.port ≡ self.old.port }
+        ensures sound { IsSound P.known self.new }
+        ensures hand { HasInHand P.known self.new }
+        ensures rest { P.rest self.new.port ≡ P.rest self.old.port }
+    {
+        self.parts.regs = Regs {
+            granted,
+            cancel,
+            phase,
+        };
+        self.parts.cancelled = cancelled;
+        self.parts.number = number;
+        if let Some(buf) = &mut self.parts.home {
+            buf.hold(content);
+        }
     }
 }
 

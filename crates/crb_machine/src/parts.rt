@@ -1,26 +1,27 @@
 //! The parts of a device, and what each access does to them.
-ghost use Rattle.std.specs.Prelude.{◌≡◌, ◌+◌, ◌*◌, ◌^◌, ◌<◌, ◌≤◌, Some, IsSome, IfSome, IfOk, IfErr};
+ghost use Rattle.std.specs.Prelude.{◌≡◌, ◌+◌, ◌*◌, ◌^◌, ◌<◌, ◌≤◌, false, Some, IsSome, IfSome};
 ghost use Rattle.crb_regs.specs.LittleEndian.{number_at};
 ghost use Rattle.crb_regs.specs.Effects.{effect as effect_of};
 ghost use Rattle.crb_port.specs.Calls.{KeepsWorker};
 ghost use Rattle.crb_machine.specs.Phases.{next_phase as phase_next};
 ghost use Rattle.crb_machine.specs.Steps.{ended_phase, written, written_to};
-ghost use Rattle.crb_machine.specs.Over.{IsSound, Settles, ComesHome, IsBusy, Acts, WritesTo, Resets, own_byte, state_of};
+ghost use Rattle.crb_machine.specs.Over.{IsSound, Settles, Acts, WritesTo, own_byte, state_of, with_answer};
 
 use crate::bytes::overwrite;
-use crate::device::NotYet;
 use crate::phases::next_phase;
-use crb_port::{Job, Outcome, Port, Pull};
+use crb_port::{Answer, Job, Outcome, Port};
 use crb_regs::{Access, DATA_BUFFER, Effect, Phase, Regs, decode};
 use vt_base::Buf;
 
-/// What a device over a port is made of: the registers, the number of the last job, the buffer where it is home, and the
-/// port.
+/// What a device over a port is made of: the registers, the number of the last job, the buffer where it is home, whether
+/// the device is held, whether the job of a held device is cancelled that waits until it goes on, and the port.
 #[derive(Drop)]
 pub struct DeviceParts<P> {
     pub regs: Regs,
     pub number: u64,
     pub home: Option<Buf>,
+    pub held: bool,
+    pub cancelled: bool,
     pub port: P,
 }
 
@@ -35,9 +36,19 @@ fn phase_at_end(outcome: Outcome) -> Phase
 }
 
 impl<P: Port> DeviceParts<P> {
-    // Takes home an answer that stands. While the buffer is home none can, and the port is left alone.
+    /// Takes an answer home, which ends the execution.
+    pub fn take_home(&mut self, answer: Answer)
+        ensures { self.new ≡ with_answer answer self.old self.old.port }
+    {
+        self.regs.phase = phase_at_end(answer.outcome);
+        self.home = Some(answer.buf);
+    }
+
+    /// Takes home an answer that stands. While the buffer is home none can, and the port is left alone.
     pub fn settle(&mut self)
+        requires runs { self.old.held ≡ false }
         requires sound { IsSound P.known self.old }
+        ensures runs { self.new.held ≡ false }
         ensures settles { Settles P.known self.old self.new }
         ensures worker { KeepsWorker (P.known self.old.port) (P.known self.new.port) }
         ensures sound { IsSound P.known self.new }
@@ -47,8 +58,7 @@ impl<P: Port> DeviceParts<P> {
             return;
         }
         if let Some(answer) = self.port.collect() {
-            self.regs.phase = phase_at_end(answer.outcome);
-            self.home = Some(answer.buf);
+            self.take_home(answer);
         }
     }
 
@@ -70,7 +80,7 @@ impl<P: Port> DeviceParts<P> {
         }
     }
 
-    // The little-endian number of so many bytes.
+    /// The little-endian number of so many bytes.
     pub fn number_at(&self, offset: u32, size: u8) -> u64
         requires size { size ≤ 8 }
         requires place { offset + size ≤ 0x1000 }
@@ -87,10 +97,12 @@ impl<P: Port> DeviceParts<P> {
 
     // What an accepted write of this effect does.
     fn act(&mut self, effect: Effect, phase: Phase, a: &Access)
+        requires runs { self.old.held ≡ false }
         requires write { IsSome a.now.write }
         requires in_buffer { effect ≡ Effect.Buffer → 0x80 ≤ a.now.offset }
         requires accepted { phase_next effect self.old.regs.granted self.old.regs.phase ≡ Some phase }
         requires sound { IsSound P.known self.old }
+        ensures runs { self.new.held ≡ false }
         ensures acts { Acts P.known (Some phase) effect a.now self.old self.new }
         ensures told { IfSome (state_of P.known self.old) (λ d. state_of P.known self.new ≡ Some (written_to (Some phase) effect a.now d)) }
         ensures worker { KeepsWorker (P.known self.old.port) (P.known self.new.port) }
@@ -132,10 +144,12 @@ impl<P: Port> DeviceParts<P> {
         }
     }
 
-    // A write of the guest, once an answer that stood is home.
+    /// A write of the guest, once an answer that stood is home.
     pub fn write(&mut self, a: &Access)
+        requires runs { self.old.held ≡ false }
         requires write { IsSome a.now.write }
         requires sound { IsSound P.known self.old }
+        ensures runs { self.new.held ≡ false }
         ensures writes { WritesTo P.known self.old a.now self.new }
         ensures told { IfSome (state_of P.known self.old) (λ d. state_of P.known self.new ≡ Some (written d a.now)) }
         ensures worker { KeepsWorker (P.known self.old.port) (P.known self.new.port) }
@@ -146,57 +160,5 @@ impl<P: Port> DeviceParts<P> {
         if let Some(phase) = next_phase(effect, self.regs.granted, self.regs.phase) {
             self.act(effect, phase, a);
         }
-    }
-
-    // Pulls the buffer home, unless the job is claimed. Where the buffer is home the port is left alone.
-    fn bring_home(&mut self) -> Result<(), NotYet>
-        requires sound { IsSound P.known self.old }
-        ensures home { IfOk result (λ _. ComesHome P.known self.old self.new) }
-        ensures is_home { IfOk result (λ _. IsSome self.new.home) }
-        ensures number { IfErr result (λ e. e ≡ record { number = self.old.number }) }
-        ensures busy { IfErr result (λ _. IsBusy P.known self.old self.new) }
-        ensures worker { KeepsWorker (P.known self.old.port) (P.known self.new.port) }
-        ensures sound { IsSound P.known self.new }
-        ensures rest { P.rest self.new.port ≡ P.rest self.old.port }
-    {
-        if self.home.is_some() {
-            return Ok(());
-        }
-        match self.port.pull() {
-            Pull::Job(job) => {
-                self.regs.phase = Phase::Idle;
-                self.home = Some(job.buf);
-            }
-            Pull::Answer(answer) => {
-                self.regs.phase = phase_at_end(answer.outcome);
-                self.home = Some(answer.buf);
-            }
-            Pull::Busy => {
-                return Err(NotYet {
-                    number: self.number,
-                });
-            }
-            Pull::Free => unreachable!(),
-        }
-        Ok(())
-    }
-
-    // A reset of the guest.
-    pub fn reset(&mut self) -> Result<(), NotYet>
-        requires sound { IsSound P.known self.old }
-        ensures resets { Resets P.known self.old result self.new }
-        ensures worker { KeepsWorker (P.known self.old.port) (P.known self.new.port) }
-        ensures sound { IsSound P.known self.new }
-        ensures rest { P.rest self.new.port ≡ P.rest self.old.port }
-    {
-        self.bring_home()?;
-        if let Phase::Lost = self.regs.phase {
-            return Ok(());
-        }
-        self.regs = Regs::reset();
-        if let Some(buf) = &mut self.home {
-            buf.clear();
-        }
-        Ok(())
     }
 }

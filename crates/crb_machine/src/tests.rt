@@ -1,5 +1,8 @@
+ghost use Rattle.std.specs.Prelude.{◌≡◌, true, false};
+ghost use Rattle.crb_port.specs.Known.{hand_of};
+
 use super::*;
-use crb_port::{Answer, Job, Outcome, PlainPort, WorkPort};
+use crb_port::{Answer, Job, Outcome, PlainPort, Port, WorkPort};
 use crb_regs::{Access, Phase};
 use std::alloc::{AllocError, Global};
 use std::marker::Model;
@@ -23,9 +26,14 @@ enum Step {
     NoJob,
     // The answer to the claimed job, and the bytes of its response.
     Answer(Outcome, &'static [u8]),
+    // A stop, and the number of the job that keeps it from being done.
+    Stop(Option<u64>),
+    // Access, CANCEL, and the mark of the held device; its phase and number, and the first bytes of its buffer.
+    Holds([bool; 3], Phase, u64, &'static [u8]),
+    GoOn,
 }
 
-use Step::{Claim, NoJob, Read, Reset, Shows, Write};
+use Step::{Claim, GoOn, Holds, NoJob, Read, Reset, Shows, Stop, Write};
 
 // A device over a plain port, and the job that is claimed there.
 #[derive(Drop)]
@@ -45,6 +53,54 @@ impl Model for Bench {
     ghost invariant = { λ b. hand_of b.device.port ≡ option_map (λ job. job.number) b.job };
 }
 
+// Does a step on a device that isn't held.
+fn serves(device: &mut Device<PlainPort>, step: Step) -> bool
+    requires runs { device.old.held ≡ false }
+    ensures hand { hand_of device.new.port ≡ hand_of device.old.port }
+{
+    match step {
+        Read(offset, size, wanted) => match Access::new(offset, size, None) {
+            Some(access) => device.read(&access) == wanted,
+            None => false,
+        },
+        Write(offset, size, value) => match Access::new(offset, size, Some(value)) {
+            Some(access) => {
+                device.write(&access);
+                true
+            }
+            None => false,
+        },
+        Reset(claimed) => device.reset().err().map(|e| e.number) == claimed,
+        Stop(claimed) => device.stop().err().map(|e| e.number) == claimed,
+        _ => false,
+    }
+}
+
+// Does a step on a held device.
+fn pauses(device: &mut Device<PlainPort>, step: Step) -> bool
+    requires held { device.old.held ≡ true }
+    ensures hand { hand_of device.new.port ≡ hand_of device.old.port }
+{
+    match step {
+        Holds(bits, phase, number, front) => {
+            let held = [
+                device.granted(),
+                device.cancel_bit(),
+                device.waiting_cancelled(),
+            ];
+            held == bits
+                && device.phase() == phase
+                && device.number() == number
+                && device.content().starts_with(front)
+        }
+        GoOn => {
+            device.go_on();
+            true
+        }
+        _ => false,
+    }
+}
+
 impl Bench {
     fn new(alloc: Global) -> Result<Bench, AllocError> {
         let device = Device::new(alloc, PlainPort::new())?;
@@ -58,21 +114,21 @@ impl Bench {
         Ok(Bench { device, job: None })
     }
 
+    // A bench whose device is held, as after the response of its command 7.
+    fn restored(alloc: Global) -> Result<Bench, AllocError> {
+        let mut device = Device::new(alloc, PlainPort::new())?;
+        if device.stop().is_ok() {
+            device.restore(true, true, Phase::Completion, false, 7, &SUCCESS);
+        }
+        Ok(Bench { device, job: None })
+    }
+
     // Does a step; false where it can't be done, or the device shows something else.
     fn does(&mut self, step: Step) -> bool {
         match step {
-            Read(offset, size, wanted) => match Access::new(offset, size, None) {
-                Some(access) => self.device.read(&access) == wanted,
-                None => false,
-            },
-            Write(offset, size, value) => match Access::new(offset, size, Some(value)) {
-                Some(access) => {
-                    self.device.write(&access);
-                    true
-                }
-                None => false,
-            },
-            Reset(claimed) => self.device.reset().err().map(|e| e.number) == claimed,
+            Read(..) | Write(..) | Reset(_) | Stop(_) => !self.device.is_held()
+                && serves(&mut self.device, step),
+            Holds(..) | GoOn => self.device.is_held() && pauses(&mut self.device, step),
             Shows(phase, number) => {
                 self.device.phase() == phase && self.device.number() == number
             }
@@ -449,5 +505,133 @@ fn device_that_is_given_up(rt: HostRuntime) -> Result<(), Fail> {
         ]),
         None
     );
+    Ok(())
+}
+
+// The command that `STARTUP` writes, as far as it isn't zeros.
+const COMMAND: [u8; 10] = [0x80, 1, 0, 0, 0, 12, 0, 0, 1, 0x44];
+
+// What a stop and a go-on give at each stage of a command.
+const STOPPED_IDLE: [Step; 7] = [
+    Stop(None),
+    Holds([false; 3], Phase::Idle, 0, &[0; 10]),
+    NoJob,
+    GoOn,
+    NoJob,
+    Write(0x40, 4, 1),
+    Read(0x80, 8, 0),
+];
+
+const STOPPED_IN_RECEPTION: [Step; 6] = [
+    Stop(None),
+    Holds([true, false, false], Phase::Reception, 0, &COMMAND),
+    GoOn,
+    Read(0x88, 4, 0x4401),
+    Write(0x4C, 4, 1),
+    Claim(1, false),
+];
+
+const STOPPED_WAITING: [Step; 6] = [
+    Stop(None),
+    Holds([true, false, false], Phase::Execution, 1, &COMMAND),
+    NoJob,
+    GoOn,
+    Read(0x4C, 4, 1),
+    Claim(1, false),
+];
+
+const STOPPED_CANCELLED: [Step; 6] = [
+    Write(0x48, 4, 1),
+    Stop(None),
+    Holds([true, true, true], Phase::Execution, 1, &COMMAND),
+    NoJob,
+    GoOn,
+    Claim(1, true),
+];
+
+const STOPPED_TOO_LATE: [Step; 5] = [
+    Claim(1, false),
+    Stop(Some(1)),
+    Read(0x4C, 4, 1),
+    Step::Answer(Outcome::Done, &SUCCESS),
+    Read(0x80, 4, 0x180),
+];
+
+const STOPPED_ANSWERED: [Step; 8] = [
+    Claim(1, false),
+    Step::Answer(Outcome::Done, &SUCCESS),
+    Stop(None),
+    Holds([true, false, false], Phase::Completion, 1, &SUCCESS),
+    GoOn,
+    NoJob,
+    Read(0x4C, 4, 0),
+    Read(0x80, 4, 0x180),
+];
+
+const STOPPED_LOST: [Step; 7] = [
+    Claim(1, false),
+    Step::Answer(Outcome::Lost, &[]),
+    Stop(None),
+    Shows(Phase::Lost, 1),
+    GoOn,
+    NoJob,
+    Read(0x44, 4, 1),
+];
+
+#[test]
+fn stop_and_go_on_at_each_stage(rt: HostRuntime) -> Result<(), Fail> {
+    // How far the command was started before.
+    let cases: [(usize, &[Step]); 7] = [
+        (0, &STOPPED_IDLE),
+        (5, &STOPPED_IN_RECEPTION),
+        (6, &STOPPED_WAITING),
+        (6, &STOPPED_CANCELLED),
+        (6, &STOPPED_TOO_LATE),
+        (6, &STOPPED_ANSWERED),
+        (6, &STOPPED_LOST),
+    ];
+    for (length, steps) in cases {
+        assert_eq!(rt;
+            first_wrong(rt.alloc(), &[&STARTUP[..length], steps])?,
+            None
+        );
+    }
+    Ok(())
+}
+
+#[test]
+fn restored_values_are_read(rt: HostRuntime) -> Result<(), Fail> {
+    let mut bench = Bench::restored(rt.alloc())?;
+    let steps = [
+        Holds([true, true, false], Phase::Completion, 7, &SUCCESS),
+        GoOn,
+        Read(0x00, 4, 0x83),
+        Read(0x48, 4, 1),
+        Read(0x80, 4, 0x180),
+        // Behind the bytes that were given are zeros.
+        Read(0x88, 4, 0),
+        Shows(Phase::Completion, 7),
+    ];
+    let next = [Claim(8, true)];
+    assert_eq!(rt; bench.first_wrong(&[&steps, &STARTUP, &next]), None);
+    Ok(())
+}
+
+// Stops a device over any port, and has it go on; whether it was stopped.
+fn pause<P: Port>(device: &mut Device<P>) -> bool
+    requires runs { device.old.held ≡ false }
+{
+    if device.stop().is_err() {
+        return false;
+    }
+    device.go_on();
+    true
+}
+
+#[test]
+fn a_device_over_any_port_is_stopped(rt: HostRuntime) -> Result<(), Fail> {
+    let mut device = Device::new(rt.alloc(), PlainPort::new())?;
+    assert!(rt; pause(&mut device));
+    assert!(rt; !device.is_held());
     Ok(())
 }

@@ -2,7 +2,7 @@ use Rattle.std.proofs.Common.{rules}
 use Rattle.crb_machine.proofs.parts.DeviceParts.reset.Goals as goal
 
 pub returns-in-Lost-clause-resets : goal.returns-in-Lost-clause-resets
-returns-in-Lost-clause-resets g c = (c.bring_home.new.self, search rules, search rules)
+returns-in-Lost-clause-resets g c = (c.stop.new.self, search rules, search rules)
 
 pub returns-in-Some-clause-resets : goal.returns-in-Some-clause-resets
-returns-in-Some-clause-resets g c = (c.bring_home.new.self, search rules, search rules)
+returns-in-Some-clause-resets g c = (c.stop.new.self, search rules, search rules)
