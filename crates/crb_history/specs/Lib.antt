@@ -6,3 +6,5 @@ pub mod Asked
 pub mod Legal
 pub mod Replies
 pub mod Counts
+pub mod Continued
+pub mod Plain

@@ -1,5 +1,5 @@
 -- The lines of a script with their replies, and the history that they tell. (Own definitions.)
-use Rattle.std.specs.Prelude.{◌≡◌, ℕ, ◌+◌, Bool, true, false, not, ◌&&◌, nat_le, nat_lt, if◌then◌else◌, List, [], ◌∷◌, length, Option, Some, None, is_some, IsSome, ⊤}
+use Rattle.std.specs.Prelude.{◌≡◌, ℕ, ◌+◌, Bool, true, false, not, ◌&&◌, nat_le, nat_lt, if◌then◌else◌, List, [], ◌∷◌, length, Option, Some, None, IsSome, ⊤}
 use Rattle.crb_regs.specs.Registers.{is_executing, is_lost}
 use Rattle.crb_port.specs.declared.job.Outcome.TheVariants.{Done, Cancelled, Lost}
 use Rattle.tpm_core.specs.Answers.{answer}
@@ -20,9 +20,17 @@ pub record Exchange : Type 0 where
   pub line : Option Line
   pub reply : Reply
 
+-- the line of an exchange
+abbrev pub line_of : Exchange → Option Line
+line_of x = x.line
+
 -- the lines so far with their replies, the latest first
 abbrev pub Transcript : Type 0
 Transcript = List Exchange
+
+-- one more line and its reply
+abbrev pub exchange : Line → Reply → Exchange
+exchange line reply = record { line = Some line; reply = reply }
 
 -- ---- orders: the call of a number, counted from its line, on the wires between device and emulator is to fail
 
@@ -64,6 +72,10 @@ count_after line reply size count = count + calls_of line reply size
 abbrev pub reaches : Option ℕ → ℕ → Bool
 reaches None count = false
 reaches (Some call) count = nat_le call count
+
+-- no call fails
+abbrev pub none_fails : ℕ → Bool
+none_fails calls = false
 
 -- ---- the history
 

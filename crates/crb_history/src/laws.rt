@@ -1,11 +1,18 @@
 //! Laws of histories.
-ghost use Rattle.std.specs.Prelude.{◌≡◌, ℕ, ◌+◌, ◌%◌, ◌^◌, ◌<◌, ◌++◌};
+ghost use Rattle.std.specs.Prelude.{◌≡◌, ◌≢◌, ℕ, ◌+◌, ◌%◌, ◌^◌, ◌<◌, List, ◌++◌, map, Some, None};
 ghost use Rattle.crb_regs.specs.declared.phase.Phase.TheVariants.{Lost};
 ghost use Rattle.crb_history.specs.Base.{Base};
 ghost use Rattle.crb_history.specs.Event.{History};
 ghost use Rattle.crb_history.specs.Device.{phase_of, number_of, shows, executed};
 ghost use Rattle.crb_history.specs.Legal.{Legal};
+ghost use Rattle.vt_script.specs.declared.event.Event.{Event as Line};
+ghost use Rattle.crb_history.specs.Replies.{Transcript, IsRun, line_of, order_of};
+ghost use Rattle.crb_history.specs.Plain.{HasNoOrder, plain, plain_history};
+ghost use Rattle.crb_history.specs.Continued.{base_after, MaySuspend};
+ghost use Rattle.tpm_core.specs.Steps.{IsFit};
 ghost use Rattle.crb_history.specs.Counts.{start_count, done_count, execution_count};
+
+use tpm_core::laws::pasts_join;
 
 /// The last command's number is that of the base plus the number of commands that were started since.
 pub fn numbers_count_starts()
@@ -23,4 +30,27 @@ pub fn lost_stays_lost()
     ensures phase { (b : Base) (p more : History) → Legal b (more ++ p) → phase_of b p ≡ Lost → phase_of b (more ++ p) ≡ Lost }
     ensures page { (b : Base) (p more : History) → Legal b (more ++ p) → phase_of b p ≡ Lost
         → (i : ℕ) → shows b (more ++ p) i ≡ shows b p i }
+{}
+
+/// A run to a point where the guest may be suspended, and a run from the values at that point, are one run of one device over
+/// one TPM: what the guest is shown after it is what it would have been shown without it, and nothing is executed twice.
+pub fn histories_continue()
+    ensures legal { (b : Base) (h more : History) → IsFit b.tpm → Legal b h → MaySuspend b h
+        → Legal (base_after b h) more → Legal b (more ++ h) }
+    ensures page { (b : Base) (h more : History) → IsFit b.tpm → MaySuspend b h → Legal (base_after b h) more
+        → (i : ℕ) → i < 0x1000 → shows (base_after b h) more i ≡ shows b (more ++ h) i }
+    ensures executed { (b : Base) (h more : History) → IsFit b.tpm → MaySuspend b h → Legal (base_after b h) more
+        → executed b (more ++ h) ≡ executed (base_after b h) more ++ executed b h }
+{
+    pasts_join();
+}
+
+/// Lines that order no fault have one run: each reply, and with it what happened, is told by the lines before it. No device
+/// is lost in it.
+pub fn plain_runs_are_one()
+    ensures run { (b : Base) (lines : List Line) (t : Transcript) → HasNoOrder lines → map line_of t ≡ map Some lines
+        → IsRun b t → t ≡ plain b lines }
+    ensures unordered { (b : Base) (lines : List Line) → HasNoOrder lines → order_of (plain b lines) ≡ None }
+    ensures working { (b : Base) (lines : List Line) → HasNoOrder lines → b.device.phase ≢ Lost
+        → phase_of b (plain_history b lines) ≢ Lost }
 {}

@@ -11,4 +11,7 @@ mod command;
 mod laws;
 
 pub use command::command_of;
-pub use laws::{done_is_executed_once, lost_stays_lost, numbers_count_starts};
+pub use laws::{
+    done_is_executed_once, histories_continue, lost_stays_lost, numbers_count_starts,
+    plain_runs_are_one,
+};

@@ -1,0 +1,150 @@
+-- Replies where no call on the wires is ordered to fail.
+use Rattle.std.proofs.Common.{◌≡◌, ℕ, ◌+◌, Bool, true, false, List, [], ◌∷◌, refl, ap, subst, ◌∙◌}
+use Rattle.std.specs.Prelude.{if◌then◌else◌, Option, Some, None, IsSome, map}
+use Rattle.crb_regs.specs.Access.{Access}
+use Rattle.crb_regs.specs.Registers.{is_executing}
+use Rattle.vt_script.specs.declared.event.Event.{Event as Line}
+use Rattle.vt_script.specs.declared.event.Event.TheVariants.{Access as AccessLine, Work, Ask as AskLine, Reset as ResetLine, Fail}
+use Rattle.vt_script.specs.declared.reply.Reply.{Reply}
+use Rattle.vt_script.specs.declared.reply.Reply.TheVariants as replied
+use Rattle.crb_history.specs.Base.{Base}
+use Rattle.crb_history.specs.Event.{History}
+use Rattle.crb_history.specs.Device.{phase_of, stage_of, Stage}
+use Rattle.crb_history.specs.Device.Stage.{Waiting, Claimed, HasSent, HasRun}
+use Rattle.crb_history.specs.Legal.{Legal}
+use Rattle.crb_history.specs.Replies.{Exchange, Transcript, line_of, exchange, history, order_of, order_after, call_count, reaches, fails_within, is_fault, with_event, turn, turn_at, turning_of, reset_reply, ask_reply, none_fails, Answers, IsRun}
+use Rattle.crb_history.specs.Plain.{is_order, HasNoOrder, access_reply, plain_reply, plain}
+
+-- a line that is no order, and its reply, leave none
+pub still_none : (order : Option ℕ) (fault : Bool) → order ≡ None → (if fault then None else order) ≡ None
+still_none order true is = refl
+still_none order false is = is
+
+-- so no call fails
+pub never : (b : Base) (t : Transcript) → order_of t ≡ None → (calls : ℕ) → fails_within b t calls ≡ false
+never b t none calls = ap (λ (o : Option ℕ). reaches o (call_count b t + calls)) none
+
+-- and a step of the worker is answered as where none does
+pub turn-none : (b : Base) (t : Transcript) → order_of t ≡ None → turn b (history b t) (fails_within b t) ≡ turn b (history b t) none_fails
+turn-none b t none = go (is_executing (phase_of b (history b t))) (stage_of b (history b t))
+  where
+    by_stage : (stage : Stage) → turn_at stage (turning_of b (history b t)) (fails_within b t) ≡ turn_at stage (turning_of b (history b t)) none_fails
+    by_stage Waiting = refl
+    by_stage Claimed = rw (never b t none 1) refl
+    by_stage HasSent = rw (never b t none 1) refl
+    by_stage HasRun = rw (never b t none 1) refl
+
+    go : (executing : Bool) (stage : Stage) → (if executing then turn_at stage (turning_of b (history b t)) (fails_within b t) else replied.Idle) ≡ (if executing then turn_at stage (turning_of b (history b t)) none_fails else replied.Idle)
+    go false stage = refl
+    go true stage = by_stage stage
+
+-- what a step of the worker leaves, by its reply alone
+pub turned : (b : Base) (t : Transcript) (reply : Reply) → with_event (Some Work) reply (fails_within b t) (history b t) ≡ with_event (Some Work) reply none_fails (history b t)
+turned b t (replied.Value v s) = refl
+turned b t replied.Accepted = refl
+turned b t replied.Idle = refl
+turned b t (replied.Claim n) = refl
+turned b t (replied.Sent n) = refl
+turned b t (replied.Exec n) = refl
+turned b t (replied.Done n) = refl
+turned b t (replied.Cancelled n) = refl
+turned b t (replied.Lost n) = refl
+turned b t replied.Link = refl
+turned b t replied.Asked = refl
+turned b t replied.FailedDevice = refl
+turned b t replied.NotYet = refl
+turned b t replied.Reset = refl
+
+-- ---- the one run
+
+-- a line that is no order, and its reply, leave none
+unordered-after : (line : Line) (reply : Reply) (order : Option ℕ) → is_order line ≡ false → order ≡ None → order_after (Some line) reply order ≡ None
+unordered-after (AccessLine a) reply order no_order none = still_none order (is_fault reply) none
+unordered-after Work reply order no_order none = still_none order (is_fault reply) none
+unordered-after AskLine reply order no_order none = still_none order (is_fault reply) none
+unordered-after ResetLine reply order no_order none = still_none order (is_fault reply) none
+unordered-after (Fail host call) reply order no_order none = cc
+
+-- none of so many next calls fails
+nothing_fails : (b : Base) (t : Transcript) {A : Type 0} (f : (ℕ → Bool) → A) → order_of t ≡ None → f (fails_within b t) ≡ f none_fails
+nothing_fails b t f none = ap (λ (o : Option ℕ). f (λ calls. reaches o (call_count b t + calls))) none
+
+-- the reply to an access is the one that is due
+access_is : (b : Base) (p : History) (fails : ℕ → Bool) (a : Access) (reply : Reply) (write : Option ℕ) → a.write ≡ write
+    → Answers b p fails (Some (AccessLine a)) reply → Legal b (with_event (Some (AccessLine a)) reply fails p) → reply ≡ access_reply b p a write
+access_is b p fails a (replied.Value value size) None is answers legal = rw (answers.1, legal.1.1) refl
+access_is b p fails a (replied.Value value size) (Some w) is answers legal = absurd (go a.write is answers.0)
+  where
+    go : (write : Option ℕ) → write ≡ Some w → write ≡ None → ⊥
+    go None so none = cc
+    go (Some v) so none = cc
+access_is b p fails a replied.Accepted None is answers legal = absurd (go a.write is answers)
+  where
+    go : (write : Option ℕ) → write ≡ None → IsSome write → ⊥
+    go None so some = cc
+    go (Some v) so some = cc
+access_is b p fails a replied.Accepted (Some w) is answers legal = refl
+access_is b p fails a _ write is answers legal = absurd answers
+
+-- the reply to any line that is no order
+reply_is : (b : Base) (t : Transcript) (line : Line) (reply : Reply) → is_order line ≡ false → order_of t ≡ None
+    → Answers b (history b t) (fails_within b t) (Some line) reply → Legal b (history b (exchange line reply ∷ t)) → reply ≡ plain_reply b (history b t) line
+reply_is b t (AccessLine a) reply no_order none answers legal = access_is b (history b t) (fails_within b t) a reply a.write refl answers legal
+reply_is b t Work reply no_order none answers legal = answers ∙ turn-none b t none
+reply_is b t AskLine reply no_order none answers legal = answers ∙ nothing_fails b t ask_reply none
+reply_is b t ResetLine reply no_order none answers legal = answers ∙ nothing_fails b t (reset_reply b (history b t)) none
+reply_is b t (Fail host call) reply no_order none answers legal = cc
+
+-- a history of lines begins with that of the lines before the last
+legal-before : (b : Base) (line : Option Line) (reply : Reply) (fails : ℕ → Bool) (p : History) → Legal b (with_event line reply fails p) → Legal b p
+legal-before b (Some (AccessLine a)) (replied.Value v s) fails p legal = legal.0
+legal-before b (Some (AccessLine a)) replied.Accepted fails p legal = legal.0
+legal-before b (Some Work) (replied.Claim n) fails p legal = legal.0
+legal-before b (Some Work) (replied.Sent n) fails p legal = legal.0
+legal-before b (Some Work) (replied.Exec n) fails p legal = legal.0
+legal-before b (Some Work) (replied.Done n) fails p legal = legal.0
+legal-before b (Some Work) (replied.Cancelled n) fails p legal = legal.0
+legal-before b (Some Work) (replied.Lost n) fails p legal = legal.0
+legal-before b (Some AskLine) replied.Asked fails p legal = legal.0
+legal-before b (Some AskLine) replied.Link fails p legal = legal.0
+legal-before b (Some ResetLine) replied.Reset fails p legal = legal.0
+legal-before b (Some ResetLine) replied.Link fails p legal = legal.0
+legal-before b _ _ fails p legal = legal
+
+the_first : {A : Type 0} (x y : A) (xs ys : List A) → x ∷ xs ≡ y ∷ ys → x ≡ y
+the_first x y xs ys same = cc
+
+the_others : {A : Type 0} (x y : A) (xs ys : List A) → x ∷ xs ≡ y ∷ ys → xs ≡ ys
+the_others x y xs ys same = cc
+
+-- an exchange by its parts
+exchange_is : (x : Exchange) (line : Line) (reply : Reply) → x.line ≡ Some line → x.reply ≡ reply → x ≡ exchange line reply
+exchange_is x line reply is replies = ap (λ (l : Option Line). record { line = l; reply = x.reply }) is ∙ ap (exchange line) replies
+
+-- what is known of a run without orders
+record IsPlain (b : Base) (lines : List Line) (t : Transcript) : Type 0 where
+  same : t ≡ plain b lines
+  none : order_of t ≡ None
+
+plain_by : (b : Base) (lines : List Line) (t : Transcript) → HasNoOrder lines → map line_of t ≡ map Some lines → IsRun b t → IsPlain b lines t
+plain_by b [] [] no_orders lines run = record { same = refl; none = refl }
+plain_by b [] (x ∷ t) no_orders lines run = cc
+plain_by b (line ∷ earlier) [] no_orders lines run = cc
+plain_by b (line ∷ earlier) (x ∷ t) no_orders lines run =
+    let is : x.line ≡ Some line = the_first x.line (Some line) _ _ lines in
+    let before : IsPlain b earlier t = plain_by b earlier t no_orders.0 (the_others x.line (Some line) _ _ lines)
+    (record { legal = legal-before b x.line x.reply _ (history b t) run.legal; in_turn = run.in_turn.0 }) in
+    let whole : x ≡ exchange line x.reply = exchange_is x line x.reply is refl in
+    let replies : x.reply ≡ plain_reply b (history b t) line = reply_is b t line x.reply no_orders.1 before.none
+    (subst (λ l. Answers b (history b t) (fails_within b t) l x.reply) is run.in_turn.1) (subst (λ y. Legal b (history b (y ∷ t))) whole run.legal) in
+    record {
+      same = ap (λ y. y ∷ t) (exchange_is x line (plain_reply b (history b t) line) is replies) ∙ ap (λ u. exchange line (plain_reply b (history b u) line) ∷ u) before.same;
+      none = ap (λ l. order_after l x.reply (order_of t)) is ∙ unordered-after line x.reply (order_of t) no_orders.1 before.none;
+    }
+
+pub run-plain : (b : Base) (lines : List Line) (t : Transcript) → HasNoOrder lines → map line_of t ≡ map Some lines → IsRun b t → t ≡ plain b lines
+run-plain b lines t no_orders same run = (plain_by b lines t no_orders same run).same
+
+pub plain-unordered : (b : Base) (lines : List Line) → HasNoOrder lines → order_of (plain b lines) ≡ None
+plain-unordered b [] no_orders = refl
+plain-unordered b (line ∷ earlier) no_orders = unordered-after line (plain_reply b (history b (plain b earlier)) line) (order_of (plain b earlier)) no_orders.1 (plain-unordered b earlier no_orders.0)

@@ -1,0 +1,44 @@
+-- The one run that lines have where no call on the wires is ordered to fail. (Own definitions.)
+use Rattle.std.specs.Prelude.{◌≡◌, ℕ, Bool, true, false, List, [], ◌∷◌, Option, Some, None, ⊤}
+use Rattle.crb_regs.specs.LittleEndian.{number_at}
+use Rattle.crb_regs.specs.Access.{Access}
+use Rattle.vt_script.specs.declared.event.Event.{Event as Line}
+use Rattle.vt_script.specs.declared.event.Event.TheVariants.{Access as AccessLine, Work, Ask, Reset, Fail}
+use Rattle.vt_script.specs.declared.reply.Reply.{Reply}
+use Rattle.vt_script.specs.declared.reply.Reply.TheVariants as replied
+use Rattle.crb_history.specs.Base.{Base}
+use Rattle.crb_history.specs.Event.{History}
+use Rattle.crb_history.specs.Device.{shows}
+use Rattle.crb_history.specs.Replies.{Transcript, exchange, history, turn, reset_reply, none_fails}
+
+-- the line lets a call fail
+abbrev pub is_order : Line → Bool
+is_order (Fail host call) = true
+is_order _ = false
+
+-- none of the lines does
+abbrev pub HasNoOrder : List Line → Type 0
+HasNoOrder [] = ⊤
+HasNoOrder (line ∷ earlier) = HasNoOrder earlier × (is_order line ≡ false)
+
+-- the reply to an access, by whether it writes: a read gives what the page shows
+abbrev pub access_reply : Base → History → Access → Option ℕ → Reply
+access_reply b p a None = replied.Value (number_at (shows b p) a.offset a.size) a.size
+access_reply b p a (Some value) = replied.Accepted
+
+-- the one reply to a line, where no call fails
+abbrev pub plain_reply : Base → History → Line → Reply
+plain_reply b p (AccessLine a) = access_reply b p a a.write
+plain_reply b p Work = turn b p none_fails
+plain_reply b p Ask = replied.Asked
+plain_reply b p Reset = reset_reply b p none_fails
+plain_reply b p (Fail host call) = replied.Accepted
+
+-- these lines with their replies; the latest line comes first
+abbrev pub plain : Base → List Line → Transcript
+plain b [] = []
+plain b (line ∷ earlier) = exchange line (plain_reply b (history b (plain b earlier)) line) ∷ plain b earlier
+
+-- the history of these lines
+abbrev pub plain_history : Base → List Line → History
+plain_history b lines = history b (plain b lines)
