@@ -1,0 +1,45 @@
+//! Laws of records, for proofs above. Their calls do nothing.
+
+ghost use Rattle.std.specs.Prelude.{◌≡◌, ◌≢◌, ℕ, ◌<◌, ◌⊎◌, List, ◌++◌, length, take, drop, Ok};
+ghost use Rattle.vt_base.specs.Numbers.{IsBytes};
+ghost use Rattle.vt_base.specs.Layout.{Spells};
+ghost use Rattle.vt_base.specs.Refusing.{malformed};
+ghost use Rattle.vt_base.specs.declared.words.Why.TheVariants.{Cut, Extra};
+ghost use Rattle.vt_base.specs.declared.words.Malformed.{Malformed};
+ghost use Rattle.crb_machine.specs.Values.{DeviceValues, AreFit};
+ghost use Rattle.device_record.specs.declared.fields.Fields.{Fields};
+ghost use Rattle.device_record.specs.Records.{fields_of, values_of, record_text, IsRecord};
+ghost use Rattle.device_record.specs.Layouts.{record_layout, AreCut, GoOn, IsRefused};
+
+/// Bytes are the record of some values, or refused for one reason at one place.
+#[tactic(auto, using(crate::proofs::Apart::text_is_record, crate::proofs::Apart::text_not_refused, crate::proofs::Apart::text_front_is_cut, crate::proofs::Apart::refused_once, crate::proofs::Apart::refused_stays, crate::proofs::Decided::decided, crate::proofs::Reasons::cut_is_cut, crate::proofs::Reasons::extra_goes_on, crate::proofs::Values::text_is_told, crate::proofs::Values::told_is_of_values))]
+pub fn records_are_told_apart()
+    // The record of values that a held device can have is accepted, and each front of it is cut and nothing else.
+    ensures accepted { (v : DeviceValues) → AreFit v → IsRecord (record_text v) v }
+    ensures not_refused { (v : DeviceValues) (fault : Malformed) → AreFit v → IsRefused fault (record_text v) → ⊥ }
+    ensures fronts { (v : DeviceValues) (n : ℕ) → AreFit v → n < length (record_text v) →
+        IsRefused (malformed Cut n) (take n (record_text v)) }
+
+    ensures decided { (bytes : List ℕ) → IsBytes bytes →
+        ((v : DeviceValues) × IsRecord bytes v) ⊎ ((fault : Malformed) × IsRefused fault bytes) }
+    ensures refused_once { (f g : Malformed) (bytes : List ℕ) → IsRefused f bytes → IsRefused g bytes → f ≡ g }
+
+    // They are cut exactly where they end before a record does, and too many exactly behind one.
+    ensures cut { (fault : Malformed) (bytes : List ℕ) → IsRefused fault bytes → fault.why ≡ Cut → AreCut fault bytes }
+    ensures extra { (fault : Malformed) (bytes : List ℕ) → IsRefused fault bytes → fault.why ≡ Extra → GoOn fault bytes }
+
+    // Unless the bytes are cut, more of them change nothing.
+    ensures stays { (fault : Malformed) (bytes more : List ℕ) → IsRefused fault bytes → fault.why ≢ Cut →
+        IsRefused fault (bytes ++ more) }
+
+    // The layout against the definition of a record.
+    ensures told { (v : DeviceValues) → AreFit v → Spells record_layout (Ok (fields_of v)) (record_text v) }
+    ensures spelled { (f : Fields) (bytes : List ℕ) → IsBytes bytes → Spells record_layout (Ok f) bytes →
+        IsRecord bytes (values_of f (drop 23 bytes)) }
+{}
+
+/// Each record tells its values once.
+#[tactic(auto, using(crate::proofs::Values::values_once))]
+pub fn records_are_told_once()
+    ensures once { (v w : DeviceValues) → AreFit v → AreFit w → record_text v ≡ record_text w → v ≡ w }
+{}

@@ -1,0 +1,69 @@
+//! The record of a device.
+
+ghost use Rattle.std.specs.Prelude.{◌≡◌, ◌≢◌, ◌≤◌, true, take, OnOk, OnErr, IfErr};
+ghost use Rattle.crb_machine.specs.Values.{AreFit, held_values};
+ghost use Rattle.crb_machine.specs.Over.{IsSound, HasInHand};
+ghost use Rattle.device_record.specs.Records.{record_text, IsRecord};
+ghost use Rattle.device_record.specs.Layouts.{IsRefused};
+
+use crate::fields::Fields;
+use crate::format::{HEADER_SIZE, RECORD_ROOM};
+use crate::reading::fields_in;
+use crate::writing::{put_record, trimmed_length};
+use crb_machine::Device;
+use crb_port::Port;
+use crb_regs::{Phase, Regs};
+use vt_base::Malformed;
+
+/// Writes the record of a held device at the front of the bytes, and gives its length. A lost device has none.
+pub fn write_record<P: Port>(device: &Device<P>, into: &mut [u8; RECORD_ROOM]) -> usize
+    requires held { device.now.held ≡ true }
+    requires working { device.now.regs.phase ≢ Phase.Lost }
+
+    ensures text { take result into.new ≡ record_text (held_values device.now) }
+    ensures fit { AreFit (held_values device.now) }
+    ensures within { result ≤ 3991 }
+{
+    let content = device.content();
+    let count = trimmed_length(content);
+    let fields = Fields {
+        regs: Regs {
+            granted: device.granted(),
+            cancel: device.cancel_bit(),
+            phase: device.phase(),
+        },
+        cancelled: device.waiting_cancelled(),
+        number: device.number(),
+        count: count as u16,
+    };
+    put_record(&fields, &content[..count], into);
+    HEADER_SIZE + count
+}
+
+/// Gives a held device the values of the record that these bytes are. Bytes that are none are refused, and then nothing is
+/// changed. The device stays held.
+pub fn load_record<P: Port>(device: &mut Device<P>, bytes: &[u8]) -> Result<(), Malformed>
+    requires held { device.old.held ≡ true }
+
+    ensures ok { OnOk result (IsRecord bytes.now (held_values device.new)) }
+    ensures refused { IfErr result (λ fault. IsRefused fault bytes.now) }
+    ensures unchanged { OnErr result (device.new ≡ device.old) }
+    ensures held { device.new.held ≡ true }
+    ensures port { device.new.port ≡ device.old.port }
+    ensures sound { OnOk result (IsSound P.known device.new) }
+    ensures hand { OnOk result (HasInHand P.known device.new) }
+    ensures rest { P.rest device.new.port ≡ P.rest device.old.port }
+{
+    let fields = fields_in(bytes)?;
+    let regs = fields.regs;
+    let content = &bytes[HEADER_SIZE..];
+    device.restore(
+        regs.granted,
+        regs.cancel,
+        regs.phase,
+        fields.cancelled,
+        fields.number,
+        content,
+    );
+    Ok(())
+}
