@@ -1,0 +1,12 @@
+pub mod Apart
+pub mod Asked
+pub mod Behind
+pub mod Ends
+pub mod Heads
+pub mod Known
+pub mod Near
+pub mod Once
+pub mod Passed
+pub mod Told
+pub mod Whole
+pub mod Walked

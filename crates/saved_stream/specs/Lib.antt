@@ -1,0 +1,5 @@
+pub mod Parts
+pub mod Streams
+pub mod Refusals
+pub mod Places
+pub mod Walks

@@ -1,0 +1,100 @@
+-- Why bytes are refused as a stream: the first cause from the left, and then what only the whole shows. Places count
+-- from the first byte. (Own definitions.)
+use Rattle.std.specs.Prelude.{◌≡◌, ◌≢◌, ◌⊎◌, ℕ, ◌+◌, ◌<◌, ◌≤◌, List, [], ◌∷◌, ◌++◌, length, take, drop, Err, Ok}
+use Rattle.vt_base.specs.Layout.{Layout, Ends, Field, Spells, IsOpen}
+use Rattle.vt_base.specs.Refusing.{malformed, mark_then}
+use Rattle.vt_base.specs.declared.words.Kind.TheVariants.{Permanent, Volatile, Saved}
+use Rattle.vt_base.specs.declared.words.Why.{Why}
+use Rattle.vt_base.specs.declared.words.Why.TheVariants.{Version, Length, Value, Cut, Extra}
+use Rattle.vt_base.specs.declared.words.Malformed.{Malformed}
+use Rattle.state_blobs.specs.Blobs.{Ending, marks_then}
+use Rattle.state_blobs.specs.Refusals.{length_field}
+use Rattle.state_blobs.specs.Assembly.{Disagrees}
+use Rattle.crb_history.specs.Base.{Base}
+use Rattle.saved_stream.specs.declared.format.TheConstants.{VERSION}
+use Rattle.saved_stream.specs.declared.part.Part.{Part}
+use Rattle.saved_stream.specs.declared.part.Part.TheVariants.{Record, Blob}
+use Rattle.saved_stream.specs.Parts.{parts, IsWhole, IsPartRefused}
+use Rattle.saved_stream.specs.Streams.{magic, IsStream}
+
+-- ---- the head
+
+-- the bytes of the magic, the version, and a length, which is compared only once the parts are whole
+unfoldable pub head : Layout Ending
+head = marks_then magic 0 (mark_then VERSION Version 4 (Field 4 (λ length. Ends (Ok tt))))
+
+-- The bytes end before a head does, or a field of it is refused.
+abbrev pub IsHeadRefusedFor : Why → ℕ → List ℕ → Type 0
+IsHeadRefusedFor Cut place bytes = (place ≡ length bytes) × IsOpen head bytes
+IsHeadRefusedFor why place bytes = (n : ℕ) × Spells head (Err (malformed why place)) (take n bytes)
+
+abbrev pub IsHeadRefused : Malformed → List ℕ → Type 0
+IsHeadRefused fault bytes = IsHeadRefusedFor fault.why fault.place bytes
+
+-- a head is whole, whatever its length
+pub record HasHead (bytes : List ℕ) : Type 0 where
+  pub long : 9 ≤ length bytes
+  pub begins : take 5 bytes ≡ magic ++ VERSION ∷ []
+
+-- ---- the parts
+
+-- a fault in bytes that begin at this place
+abbrev pub moved : ℕ → Malformed → Malformed
+moved place fault = malformed fault.why (place + fault.place)
+
+-- The part that begins at this place is refused, other than for bytes behind it.
+pub record IsStopped (part : Part) (place : ℕ) (fault : Malformed) (bytes : List ℕ) : Type 0 where
+  pub inner : Malformed
+  pub refused : IsPartRefused part inner bytes
+  pub not_behind : inner.why ≢ Extra
+  pub named : fault ≡ moved place inner
+
+-- The first part is refused, or it is whole and one of the others is refused behind it.
+abbrev pub ArePartsRefused : List Part → ℕ → Malformed → List ℕ → Type 0
+ArePartsRefused [] place fault bytes = ⊥
+ArePartsRefused (part ∷ parts) place fault bytes =
+    IsStopped part place fault bytes
+    ⊎ ((front : List ℕ) × (after : List ℕ) × (bytes ≡ front ++ after) × IsWhole part front × ArePartsRefused parts (place + length front) fault after)
+
+-- ---- what the whole shows
+
+-- a head, the four parts, each whole, and what stands behind them
+pub record HasParts (bytes : List ℕ) : Type 0 where
+  pub head : HasHead bytes
+  pub device : List ℕ
+  pub permanent : List ℕ
+  pub volatile : List ℕ
+  pub saved : List ℕ
+  pub after : List ℕ
+  pub behind : drop 9 bytes ≡ device ++ permanent ++ volatile ++ saved ++ after
+  pub is_record : IsWhole Record device
+  pub is_permanent : IsWhole (Blob Permanent) permanent
+  pub is_volatile : IsWhole (Blob Volatile) volatile
+  pub is_saved : IsWhole (Blob Saved) saved
+
+-- how many bytes the parts have
+abbrev pub total : {bytes : List ℕ} → HasParts bytes → ℕ
+total p = length (p.device ++ p.permanent ++ p.volatile ++ p.saved)
+
+-- where the blob of the saved state begins
+abbrev pub place_of_saved : {bytes : List ℕ} → HasParts bytes → ℕ
+place_of_saved p = 9 + length (p.device ++ p.permanent ++ p.volatile)
+
+-- Each row says that those before it don't hold: the length isn't that of the parts; the TPM is started and the saved
+-- state isn't that of its registers; bytes stand behind a stream.
+abbrev pub IsWholeRefusedFor : Why → ℕ → List ℕ → Type 0
+IsWholeRefusedFor Length place bytes = (p : HasParts bytes) × (place ≡ 5) × (length_field bytes ≢ total p)
+IsWholeRefusedFor Value place bytes =
+    (p : HasParts bytes) × (length_field bytes ≡ total p) × (inner : ℕ) × Disagrees inner p.volatile p.saved × (place ≡ place_of_saved p + inner)
+IsWholeRefusedFor Extra place bytes = (place < length bytes) × (b : Base) × IsStream (take place bytes) b
+IsWholeRefusedFor why place bytes = ⊥
+
+abbrev pub IsWholeRefused : Malformed → List ℕ → Type 0
+IsWholeRefused fault bytes = IsWholeRefusedFor fault.why fault.place bytes
+
+-- The bytes are no stream, for this reason and at this place.
+abbrev pub IsStreamRefused : Malformed → List ℕ → Type 0
+IsStreamRefused fault bytes =
+    IsHeadRefused fault bytes
+    ⊎ (HasHead bytes × ArePartsRefused parts 9 fault (drop 9 bytes))
+    ⊎ IsWholeRefused fault bytes

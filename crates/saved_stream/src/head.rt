@@ -1,0 +1,60 @@
+//! The head of a stream.
+
+ghost use Rattle.std.specs.Prelude.{◌≡◌, ◌≤◌, ◌≢◌, length, IfOk, IfErr, OnOk};
+ghost use Rattle.vt_base.specs.Verdict.{judged};
+ghost use Rattle.vt_base.specs.declared.words.Why.TheVariants.{Extra};
+ghost use Rattle.state_blobs.specs.Refusals.{length_field};
+ghost use Rattle.saved_stream.specs.Refusals.{head, HasHead, IsHeadRefused};
+
+use crate::format::{HEADER_SIZE, LENGTH_PLACE, MAGIC, VERSION, VERSION_PLACE};
+use vt_base::{Judged, Malformed, Missing, Why, byte_of, number_of, refused};
+
+#[tactic(auto, unfolding(crate::specs::Refusals::head))]
+fn judge(bytes: &[u8]) -> Judged<()>
+    ensures { result ≡ judged head bytes.now }
+{
+    let [c, r, b, s] = MAGIC;
+    let (first, rest) = byte_of(bytes)?;
+    if first != c {
+        return refused(Why::Magic, 0);
+    }
+    let (second, rest) = byte_of(rest)?;
+    if second != r {
+        return refused(Why::Magic, 1);
+    }
+    let (third, rest) = byte_of(rest)?;
+    if third != b {
+        return refused(Why::Magic, 2);
+    }
+    let (fourth, rest) = byte_of(rest)?;
+    if fourth != s {
+        return refused(Why::Magic, 3);
+    }
+    let (version, rest) = byte_of(rest)?;
+    if version != VERSION {
+        return refused(Why::Version, VERSION_PLACE);
+    }
+    let (_length, _parts) = number_of(rest)?;
+    Ok(Ok(()))
+}
+
+/// The length that the head of a stream tells, or why there is no head.
+#[tactic(auto, using(crate::proofs::Heads::head_if_told, crate::proofs::Heads::cut_if_open, crate::proofs::Heads::refused_if_told))]
+pub fn length_of(bytes: &[u8]) -> Result<u32, Malformed>
+    ensures ok { OnOk result (HasHead bytes.now) }
+    ensures length { IfOk result (λ count. count ≡ length_field bytes.now) }
+    ensures refused { IfErr result (λ fault. IsHeadRefused fault bytes.now) }
+{
+    match judge(bytes) {
+        Err(Missing(_)) => {
+            return Err(Malformed {
+                why: Why::Cut,
+                place: bytes.len() as u32,
+            });
+        }
+        Ok(Err(fault)) => return Err(fault),
+        Ok(Ok(())) => {}
+    }
+    let at = &bytes[LENGTH_PLACE..HEADER_SIZE];
+    Ok(u32::from_be_bytes([at[0], at[1], at[2], at[3]]))
+}
