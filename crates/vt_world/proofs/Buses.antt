@@ -1,21 +1,20 @@
 -- A line of the script as an access of a driver.
-use Rattle.std.proofs.Common.{◌≡◌, ◌≢◌, ℕ, ◌+◌, Bool, true, false, ◌&&◌, ◌∷◌, refl, ap, sym, ◌∙◌, subst, Some, None, arith}
+use Rattle.std.proofs.Common.{◌≡◌, ◌≢◌, ℕ, Bool, true, false, ◌&&◌, ◌∷◌, refl, ap, sym, ◌∙◌, subst, Some, None, arith}
 use Rattle.std.specs.Prelude.{◌==◌, Option, IsSome, is_none, if◌then◌else◌}
 use Rattle.std.proofs.lemmas.Bool.Decides.{nat_tests}
 use Rattle.crb_regs.specs.Access.{Access}
-use Rattle.crb_regs.specs.Registers.{is_executing}
 use Rattle.crb_history.specs.Base.{Base}
 use Rattle.crb_history.specs.Event.{History}
 use Rattle.crb_history.specs.Event.Event.{Read, Write}
-use Rattle.crb_history.specs.Device.{phase_of, stage_of, Stage}
-use Rattle.crb_history.specs.Device.Stage.{Waiting, Claimed, HasSent, HasRun}
 use Rattle.crb_history.specs.Legal.{Legal}
-use Rattle.crb_history.specs.Replies.{Transcript, turning_of, turn, turn_at, history, order_of, call_count, reaches, fails_within, with_event, is_fault}
+use Rattle.crb_history.specs.Replies.{none_fails, Transcript, turn, history, order_of, fails_within, with_event, is_fault}
 use Rattle.vt_script.specs.declared.event.Event.TheVariants.{Access as AccessLine, Work}
 use Rattle.vt_script.specs.declared.reply.Reply.{Reply}
 use Rattle.vt_script.specs.declared.reply.Reply.TheVariants as replied
-use Rattle.vt_world.specs.Bus.{IsAfter, IsReady, Leads, after_access, after_turn, event_by, none_fails}
-use Rattle.vt_world.specs.Follows.{WorldState, Follows, Steps, exchange}
+use Rattle.vt_world.specs.Bus.{IsAfter, IsReady, Leads, after_access, after_turn, event_by}
+use Rattle.crb_history.specs.Replies.{exchange}
+use Rattle.crb_history.proofs.Unordered.{still_none, turn-none, turned}
+use Rattle.vt_world.specs.Follows.{WorldState, Follows, Steps}
 
 is_there : (at : ℕ) → at ≡ 0x4C → (at == 0x4C) ≡ true
 is_there at here = rw here refl
@@ -30,48 +29,6 @@ after-elsewhere b p a value write start none away = rw (none, away) refl
 after-start : (b : Base) (p : History) (a : Access) (value : ℕ) (write : Option ℕ) (start : Bool) → write ≡ None → start ≡ true
     → after_turn b (Read a value ∷ p) ≡ (if is_none write && start then after_turn b (event_by write a value ∷ p) else event_by write a value ∷ p)
 after-start b p a value write start none here = rw (none, here) refl
-
--- ---- no order stands
-
--- a line that is no order, and its reply, leave none
-still_none : (order : Option ℕ) (fault : Bool) → order ≡ None → (if fault then None else order) ≡ None
-still_none order true is = refl
-still_none order false is = is
-
--- so no call fails
-never : (b : Base) (t : Transcript) → order_of t ≡ None → (calls : ℕ) → fails_within b t calls ≡ false
-never b t none calls = ap (λ (o : Option ℕ). reaches o (call_count b t + calls)) none
-
--- and a step of the worker is answered as where none does
-turn-none : (b : Base) (t : Transcript) → order_of t ≡ None → turn b (history b t) (fails_within b t) ≡ turn b (history b t) none_fails
-turn-none b t none = go (is_executing (phase_of b (history b t))) (stage_of b (history b t))
-  where
-    by_stage : (stage : Stage) → turn_at stage (turning_of b (history b t)) (fails_within b t) ≡ turn_at stage (turning_of b (history b t)) none_fails
-    by_stage Waiting = refl
-    by_stage Claimed = rw (never b t none 1) refl
-    by_stage HasSent = rw (never b t none 1) refl
-    by_stage HasRun = rw (never b t none 1) refl
-
-    go : (executing : Bool) (stage : Stage) → (if executing then turn_at stage (turning_of b (history b t)) (fails_within b t) else replied.Idle) ≡ (if executing then turn_at stage (turning_of b (history b t)) none_fails else replied.Idle)
-    go false stage = refl
-    go true stage = by_stage stage
-
--- what a step of the worker leaves, by its reply alone
-turned : (b : Base) (t : Transcript) (reply : Reply) → with_event (Some Work) reply (fails_within b t) (history b t) ≡ with_event (Some Work) reply none_fails (history b t)
-turned b t (replied.Value v s) = refl
-turned b t replied.Accepted = refl
-turned b t replied.Idle = refl
-turned b t (replied.Claim n) = refl
-turned b t (replied.Sent n) = refl
-turned b t (replied.Exec n) = refl
-turned b t (replied.Done n) = refl
-turned b t (replied.Cancelled n) = refl
-turned b t (replied.Lost n) = refl
-turned b t replied.Link = refl
-turned b t replied.Asked = refl
-turned b t replied.FailedDevice = refl
-turned b t replied.NotYet = refl
-turned b t replied.Reset = refl
 
 -- ---- the accesses
 

@@ -18,13 +18,13 @@ use Rattle.crb_worker.specs.declared.progress.Progress.{Progress}
 use Rattle.ctrl_client.specs.Link.{Link}
 use Rattle.vt_world.specs.Follows.{IsDeviceAfter, HoldsBuffer, Placed, Stands}
 use Rattle.vt_world.proofs.Jobs.{SameCommand, Placed-same, IsDeviceAfter-same, link-same, executing_where, collected-settled}
-use Rattle.vt_world.proofs.Phases.{lives-before}
+use Rattle.crb_history.proofs.Phases.{lives-before}
 use Rattle.vt_world.proofs.Writes.{device-written, job-written, link-written}
 
 -- a write of the guest
 pub write-stands : (b : Base) (p : History) (d : DeviceState) (progress : Progress) (l : Link) (a : Access) → Stands b p d progress l → a.offset + a.size ≤ 0x1000 → Stands b (Write a ∷ p) (written (collected d) a) progress l
 write-stands b p d progress l a s fits =
-    let after = device-written b p (collected d) a s.device fits in
+    let after = device-written b p (collected d) a s.device (executing_where b p (collected d).slot progress s.job) fits in
     let job = job-written b p (collected d) a progress s.device after s.job in
     let same : collected (written (collected d) a) ≡ written (collected d) a = collected-settled b (Write a ∷ p) (written (collected d) a) (written (collected d) a).slot progress job in
     record {

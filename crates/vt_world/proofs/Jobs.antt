@@ -57,7 +57,7 @@ link-same b p q same l is = rw (same.phase, same.stage, same.in_time, same.execu
 -- the buffer stays where nothing changes its bytes
 pub HoldsBuffer-same : (b : Base) (p q : History) → ((i : ℕ) → buffer b q i ≡ buffer b p i) → (slot : Slot) → HoldsBuffer b p slot → HoldsBuffer b q slot
 HoldsBuffer-same b p q same (Home bytes) holds = record { size = holds.size; each = λ i lt. holds.each i lt ∙ sym (same i) }
-HoldsBuffer-same b p q same (Queued job) holds = tt
+HoldsBuffer-same b p q same (Queued job) holds = record { size = holds.size; each = λ i lt. holds.each i lt ∙ sym (same i) }
 HoldsBuffer-same b p q same ClaimedSlot holds = tt
 HoldsBuffer-same b p q same (Answered answer) holds = tt
 

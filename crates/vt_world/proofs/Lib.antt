@@ -1,6 +1,4 @@
-pub mod Phases
 pub mod Overwritten
-pub mod Held
 pub mod Jobs
 pub mod Writes
 pub mod Guests
@@ -13,3 +11,5 @@ pub mod Resets
 pub mod Lines
 pub mod Waits
 pub mod Buses
+pub mod Pieces
+pub mod Savings

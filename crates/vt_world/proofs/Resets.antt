@@ -54,16 +54,16 @@ use Rattle.vt_world.proofs.Asks.{two-fail}
 -- ---- no command is under way
 
 -- what is known where no job is claimed
-record IsAtRest (b : Base) (p : History) (progress : Progress) : Type 0 where
-  free : progress ≡ Free
-  unclaimed : phase_of b p ≡ Execution → stage_of b p ≡ Waiting
-  place : is_resting (place_of b p) ≡ true
-  early : is_under_way b p ≡ false
+pub record IsAtRest (b : Base) (p : History) (progress : Progress) : Type 0 where
+  pub free : progress ≡ Free
+  pub unclaimed : phase_of b p ≡ Execution → stage_of b p ≡ Waiting
+  pub place : is_resting (place_of b p) ≡ true
+  pub early : is_under_way b p ≡ false
 
 not_executing : (phase : Phase) → is_executing phase ≡ false → phase ≡ Execution → ⊥
 not_executing phase still is = let wrong : is_executing Execution ≡ false = rw is at still in cc
 
-at_rest : (b : Base) (p : History) (slot : Slot) (progress : Progress) → slot ≢ ClaimedSlot → Placed b p slot progress → IsAtRest b p progress
+pub at_rest : (b : Base) (p : History) (slot : Slot) (progress : Progress) → slot ≢ ClaimedSlot → Placed b p slot progress → IsAtRest b p progress
 at_rest b p slot progress open_slot (AtHome bytes still) = record { free = refl; unclaimed = λ is. absurd (not_executing (phase_of b p) still is); place = rw still refl; early = rw still refl }
 at_rest b p slot progress open_slot (InQueue job is) = record { free = refl; unclaimed = λ x. is.at.reached; place = rw (is.at.executing, is.at.reached) refl; early = rw (is.at.executing, is.at.reached) refl }
 at_rest b p slot progress open_slot (InHand job is) = absurd (open_slot refl)
@@ -71,11 +71,11 @@ at_rest b p slot progress open_slot (OnWay job is) = absurd (open_slot refl)
 at_rest b p slot progress open_slot (Ran job head is) = absurd (open_slot refl)
 
 -- what is known where one is
-record IsBusy (b : Base) (p : History) : Type 0 where
-  executing : phase_of b p ≡ Execution
-  busy : is_under_way b p ≡ true
+pub record IsBusy (b : Base) (p : History) : Type 0 where
+  pub executing : phase_of b p ≡ Execution
+  pub busy : is_under_way b p ≡ true
 
-busy_where : (b : Base) (p : History) (slot : Slot) (progress : Progress) → slot ≡ ClaimedSlot → Placed b p slot progress → IsBusy b p
+pub busy_where : (b : Base) (p : History) (slot : Slot) (progress : Progress) → slot ≡ ClaimedSlot → Placed b p slot progress → IsBusy b p
 busy_where b p slot progress here (AtHome bytes still) = cc
 busy_where b p slot progress here (InQueue job is) = cc
 busy_where b p slot progress here (InHand job is) = record { executing = is.at.executing; busy = rw (is.at.executing, is.at.reached) refl }
@@ -92,13 +92,13 @@ reset-working Execution d working = refl
 reset-working Completion d working = refl
 reset-working Lost d working = absurd (working refl)
 
-free_where : (slot : Slot) (number : ℕ) → reset_reply_at slot number ≡ Ok tt → slot ≢ ClaimedSlot
+pub free_where : (slot : Slot) (number : ℕ) → reset_reply_at slot number ≡ Ok tt → slot ≢ ClaimedSlot
 free_where (Home bytes) number is claimed = cc
 free_where (Queued j) number is claimed = cc
 free_where ClaimedSlot number is claimed = cc
 free_where (Answered a) number is claimed = cc
 
-claimed_where : (slot : Slot) (number : ℕ) (not_yet : NotYet) → reset_reply_at slot number ≡ Err not_yet → slot ≡ ClaimedSlot
+pub claimed_where : (slot : Slot) (number : ℕ) (not_yet : NotYet) → reset_reply_at slot number ≡ Err not_yet → slot ≡ ClaimedSlot
 claimed_where (Home bytes) number not_yet is = cc
 claimed_where (Queued j) number not_yet is = cc
 claimed_where ClaimedSlot number not_yet is = refl
@@ -125,7 +125,7 @@ lost_where d lost = by_phase d d.regs.phase refl lost
 still_lost : (d : DeviceState) → d.regs.phase ≡ Lost → (reset_of d).regs.phase ≡ Lost
 still_lost d is = rw is refl
 
-not_lost : (phase : Phase) → phase ≢ Lost → is_lost phase ≡ false
+pub not_lost : (phase : Phase) → phase ≢ Lost → is_lost phase ≡ false
 not_lost Idle working = refl
 not_lost Ready working = refl
 not_lost Reception working = refl
@@ -170,7 +170,7 @@ not_yet-steps b t d e progress l due not_yet follows is early =
       };
     }
 
-stands_collected : (b : Base) (p : History) (d : DeviceState) (progress : Progress) (l : Link) → Stands b p d progress l → Stands b p (collected d) progress l
+pub stands_collected : (b : Base) (p : History) (d : DeviceState) (progress : Progress) (l : Link) → Stands b p d progress l → Stands b p (collected d) progress l
 stands_collected b p d progress l s = record { device = rw (collected-collected d) s.device; job = rw (collected-collected d) s.job; quiet = s.quiet; link = s.link }
 
 -- the device is lost

@@ -49,7 +49,7 @@ use Rattle.vt_script.specs.declared.reply.Reply.TheVariants as replied
 use Rattle.vt_world.specs.Wires.{is_due, passed}
 use Rattle.vt_world.specs.Follows.{said, IsDue, IsLastJob, Placed, given, given_at, tpm_at, tpm_behind, Stands, InStep, Follows, Steps}
 use Rattle.vt_world.specs.Follows.Placed.{AtHome, InQueue}
-use Rattle.vt_world.proofs.Held.{held-asked}
+use Rattle.crb_history.proofs.Held.{held-asked}
 use Rattle.vt_world.proofs.Jobs.{Rests}
 use Rattle.vt_world.proofs.Orders.{fails-reaches, due-passed, due-failed, due-same}
 use Rattle.vt_world.proofs.Behind.{none_behind, rest_behind}

@@ -1,5 +1,5 @@
 -- A write of the guest keeps the device with its history.
-use Rattle.std.proofs.Common.{◌≡◌, ℕ, ◌+◌, ◌-◌, ◌%◌, ◌^◌, ◌≤◌, Bool, true, false, ◌&&◌, List, ◌∷◌, refl, ap, ◌∙◌, arith, Some, None, cond, ◌||◌, inl, inr, ◌⊎◌}
+use Rattle.std.proofs.Common.{◌≡◌, ℕ, ◌+◌, ◌-◌, ◌%◌, ◌^◌, ◌≤◌, Bool, true, false, ◌&&◌, List, ◌∷◌, refl, ap, sym, ◌∙◌, arith, Some, None, cond, ◌||◌, inl, inr, ◌⊎◌}
 use Rattle.std.specs.Prelude.{Option, is_some, slice_index, nat_le, nat_lt, if◌then◌else◌}
 use Rattle.std.proofs.lemmas.Bool.Decides.{nat_tests}
 use Rattle.vt_base.proofs.Zeros.{length-zeros, get_or-zeros}
@@ -17,7 +17,7 @@ use Rattle.crb_regs.specs.declared.phase.Phase.{Phase}
 use Rattle.crb_regs.specs.declared.phase.Phase.TheVariants.{Idle, Ready, Reception, Execution, Completion, Lost}
 use Rattle.crb_regs.specs.declared.effect.Effect.{Effect}
 use Rattle.crb_regs.specs.declared.effect.Effect.TheVariants.{Buffer, CmdReady, GoIdle, Start, Cancel, Request, Relinquish, Nothing}
-use Rattle.crb_machine.specs.State.{DeviceState, Slot}
+use Rattle.crb_machine.specs.State.{DeviceState, Slot, is_home}
 use Rattle.crb_machine.specs.Content.{slot_after}
 use Rattle.crb_machine.specs.Steps.{written, written_to, number_after, is_start}
 use Rattle.crb_port.specs.declared.job.Job.{Job}
@@ -30,9 +30,10 @@ use Rattle.ctrl_client.specs.Link.{Link}
 use Rattle.vt_world.specs.Follows.{HoldsBytes, HoldsBuffer, IsDeviceAfter, IsLastJob, Placed, place_of, tpm_at, IsLinkAfter}
 use Rattle.vt_world.specs.Follows.Placed.{AtHome, InQueue, InHand, OnWay, Ran}
 use Rattle.vt_world.proofs.Jobs.{SameCommand, Placed-same, HoldsBuffer-same, link-same, is_resting, to_rest, from_rest}
-use Rattle.vt_world.proofs.Phases.{effect-Buffer, start-executes, executing-phase_after, phase_after-Execution, no_start-Execution, lives-before}
+use Rattle.crb_history.proofs.Phases.{effect-Buffer, start-executes, executing-phase_after, phase_after-Execution, no_start-Execution, lives-before}
 use Rattle.vt_world.proofs.Overwritten.{length-overwritten, slice_index-overwritten}
 use Rattle.crb_history.proofs.Bytes.{command_in-same}
+use Rattle.crb_history.proofs.Continuing.{byte_while_executing}
 
 -- a byte after bytes were written from an offset on
 byte_there : (offset size i : ℕ) (byte : ℕ → ℕ) (after was held : ℕ) → 0x80 ≤ offset → after ≡ (if nat_le (offset - 0x80) i && nat_lt i (offset - 0x80 + size) then byte (i - (offset - 0x80)) else was) → was ≡ held → i - (offset - 0x80) ≡ 0x80 + i - offset → after ≡ (if nat_le offset (0x80 + i) && nat_lt (0x80 + i) (offset + size) then byte (0x80 + i - offset) else held)
@@ -52,7 +53,7 @@ holds-slot_after b p Buffer a cancel number bytes holds fits is accepted =
     }
 holds-slot_after b p CmdReady a cancel number bytes holds fits is accepted = record { size = length-zeros 3968; each = λ i lt. rw (is, accepted) (get_or-zeros 3968 i) }
 holds-slot_after b p GoIdle a cancel number bytes holds fits is accepted = record { size = length-zeros 3968; each = λ i lt. rw (is, accepted) (get_or-zeros 3968 i) }
-holds-slot_after b p Start a cancel number bytes holds fits is accepted = tt
+holds-slot_after b p Start a cancel number bytes holds fits is accepted = record { size = holds.size; each = λ i lt. rw (is, accepted) (holds.each i lt) }
 holds-slot_after b p (Cancel v) a cancel number bytes holds fits is accepted = record { size = holds.size; each = λ i lt. rw (is, accepted) (holds.each i lt) }
 holds-slot_after b p Request a cancel number bytes holds fits is accepted = record { size = holds.size; each = λ i lt. rw (is, accepted) (holds.each i lt) }
 holds-slot_after b p Relinquish a cancel number bytes holds fits is accepted = record { size = holds.size; each = λ i lt. rw (is, accepted) (holds.each i lt) }
@@ -83,16 +84,16 @@ slot_after-away e a cancel number slot (inr (answer, is)) = rw is (answered e)
     answered Relinquish = refl
     answered Nothing = refl
 
--- a job that waits goes on waiting
-queued_stays : (e : Effect) (a : Access) (cancel : Bool) (number : ℕ) (job : Job) → (after : Job) × (slot_after e a cancel number (Queued job) ≡ Queued after)
-queued_stays Buffer a cancel number job = (job, refl)
-queued_stays CmdReady a cancel number job = (job, refl)
-queued_stays GoIdle a cancel number job = (job, refl)
-queued_stays Start a cancel number job = (job, refl)
-queued_stays (Cancel v) a cancel number job = (record job { cancelled = job.cancelled || v }, refl)
-queued_stays Request a cancel number job = (job, refl)
-queued_stays Relinquish a cancel number job = (job, refl)
-queued_stays Nothing a cancel number job = (job, refl)
+-- a job that waits goes on waiting, with its buffer
+queued_holds : (b : Base) (q : History) (e : Effect) (a : Access) (cancel : Bool) (number : ℕ) (job : Job) → HoldsBytes b q job.buf → HoldsBuffer b q (slot_after e a cancel number (Queued job))
+queued_holds b q Buffer a cancel number job holds = holds
+queued_holds b q CmdReady a cancel number job holds = holds
+queued_holds b q GoIdle a cancel number job holds = holds
+queued_holds b q Start a cancel number job holds = holds
+queued_holds b q (Cancel v) a cancel number job holds = holds
+queued_holds b q Request a cancel number job holds = holds
+queued_holds b q Relinquish a cancel number job holds = holds
+queued_holds b q Nothing a cancel number job holds = holds
 
 -- the number of the last command after a write
 number_of-write : (b : Base) (p : History) (a : Access) → number_of b (Write a ∷ p) ≡ (if starts b p a then (number_of b p + 1) % 2 ^ 64 else number_of b p)
@@ -111,18 +112,20 @@ not_counted true more same = refl
 not_counted false more same = refl
 
 -- the buffer after an accepted write, wherever it is
-holds-accepted : (b : Base) (p : History) (a : Access) (cancel : Bool) (number : ℕ) (slot : Slot) → HoldsBuffer b p slot → a.offset + a.size ≤ 0x1000 → accepts b p a ≡ true → HoldsBuffer b (Write a ∷ p) (slot_after (effect_of a) a cancel number slot)
-holds-accepted b p a cancel number (Home bytes) holds fits accepted = holds-slot_after b p (effect_of a) a cancel number bytes holds fits refl accepted
-holds-accepted b p a cancel number (Queued job) holds fits accepted = let stays = queued_stays (effect_of a) a cancel number job in rw stays.1 tt
-holds-accepted b p a cancel number ClaimedSlot holds fits accepted = rw (slot_after-away (effect_of a) a cancel number ClaimedSlot (inl refl)) tt
-holds-accepted b p a cancel number (Answered answer) holds fits accepted = rw (slot_after-away (effect_of a) a cancel number (Answered answer) (inr (answer, refl))) tt
+holds-accepted : (b : Base) (p : History) (a : Access) (cancel : Bool) (number : ℕ) (slot : Slot) → HoldsBuffer b p slot → (is_home slot ≡ false → phase_of b p ≡ Execution) → a.offset + a.size ≤ 0x1000 → accepts b p a ≡ true → HoldsBuffer b (Write a ∷ p) (slot_after (effect_of a) a cancel number slot)
+holds-accepted b p a cancel number (Home bytes) holds away fits accepted = holds-slot_after b p (effect_of a) a cancel number bytes holds fits refl accepted
+holds-accepted b p a cancel number (Queued job) holds away fits accepted =
+    queued_holds b (Write a ∷ p) (effect_of a) a cancel number job
+    (record { size = holds.size; each = λ i lt. holds.each i lt ∙ sym (rw (away refl) (byte_while_executing (effect_of a) (is_granted b p) a i (buffer b p i))) })
+holds-accepted b p a cancel number ClaimedSlot holds away fits accepted = rw (slot_after-away (effect_of a) a cancel number ClaimedSlot (inl refl)) tt
+holds-accepted b p a cancel number (Answered answer) holds away fits accepted = rw (slot_after-away (effect_of a) a cancel number (Answered answer) (inr (answer, refl))) tt
 
 -- an accepted write leads the device on
-device-accepted : (b : Base) (p : History) (d : DeviceState) (a : Access) (phase : Phase) → IsDeviceAfter b p d → a.offset + a.size ≤ 0x1000 → next_phase (effect_of a) (is_granted b p) (phase_of b p) ≡ Some phase → IsDeviceAfter b (Write a ∷ p) (written_to (Some phase) (effect_of a) a d)
-device-accepted b p d a phase is fits next = record {
+device-accepted : (b : Base) (p : History) (d : DeviceState) (a : Access) (phase : Phase) → IsDeviceAfter b p d → (is_home d.slot ≡ false → phase_of b p ≡ Execution) → a.offset + a.size ≤ 0x1000 → next_phase (effect_of a) (is_granted b p) (phase_of b p) ≡ Some phase → IsDeviceAfter b (Write a ∷ p) (written_to (Some phase) (effect_of a) a d)
+device-accepted b p d a phase is away fits next = record {
   regs = rw (next, is.regs) refl;
   number = rw (number_of-write b p a, next, is.number) (counted (is_start (effect_of a)) ((number_of b p + 1) % 2 ^ 64) (number_of b p));
-  bytes = λ far. holds-accepted b p a d.regs.cancel (number_after (effect_of a) d.number) d.slot (is.bytes (lives-before (effect_of a) (is_granted b p) (phase_of b p) far)) fits (ap is_some next);
+  bytes = λ far. holds-accepted b p a d.regs.cancel (number_after (effect_of a) d.number) d.slot (is.bytes (lives-before (effect_of a) (is_granted b p) (phase_of b p) far)) away fits (ap is_some next);
 }
 
 -- a write that isn't accepted changes nothing
@@ -134,12 +137,12 @@ device-refused b p d a is next = record {
 }
 
 -- a write leads the device on
-pub device-written : (b : Base) (p : History) (d : DeviceState) (a : Access) → IsDeviceAfter b p d → a.offset + a.size ≤ 0x1000 → IsDeviceAfter b (Write a ∷ p) (written d a)
-device-written b p d a is fits = go (next_phase (effect_of a) d.regs.granted d.regs.phase) (rw is.regs refl)
+pub device-written : (b : Base) (p : History) (d : DeviceState) (a : Access) → IsDeviceAfter b p d → (is_home d.slot ≡ false → phase_of b p ≡ Execution) → a.offset + a.size ≤ 0x1000 → IsDeviceAfter b (Write a ∷ p) (written d a)
+device-written b p d a is away fits = go (next_phase (effect_of a) d.regs.granted d.regs.phase) (rw is.regs refl)
   where
     go : (after : Option Phase) → next_phase (effect_of a) (is_granted b p) (phase_of b p) ≡ after → IsDeviceAfter b (Write a ∷ p) (written_to after (effect_of a) a d)
     go None next = device-refused b p d a is next
-    go (Some phase) next = device-accepted b p d a phase is fits next
+    go (Some phase) next = device-accepted b p d a phase is away fits next
 
 -- no write is accepted by a device that is lost
 accepted-lives : (e : Effect) (granted : Bool) (phase : Phase) → is_accepted e granted phase ≡ true → is_lost phase ≡ false

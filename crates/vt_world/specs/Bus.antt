@@ -1,6 +1,6 @@
 -- A world as the bus of a driver: each access is one of the guest, and the worker takes a step after each read of START.
 -- (Own definitions.)
-use Rattle.std.specs.Prelude.{◌≡◌, ℕ, Bool, false, ◌&&◌, ◌==◌, if◌then◌else◌, ◌∷◌, Option, Some, None, is_none}
+use Rattle.std.specs.Prelude.{◌≡◌, ℕ, Bool, ◌&&◌, ◌==◌, if◌then◌else◌, ◌∷◌, Option, Some, None, is_none}
 use Rattle.crb_regs.specs.Access.{Access}
 use Rattle.crb_regs.specs.declared.registers.TheConstants.{CTRL_START}
 use Rattle.crb_driver.specs.Bus.{Relation}
@@ -8,7 +8,7 @@ use Rattle.crb_history.specs.Base.{Base}
 use Rattle.crb_history.specs.Event.{Event, History}
 use Rattle.crb_history.specs.Event.Event.{Read, Write}
 use Rattle.crb_history.specs.Legal.{Legal}
-use Rattle.crb_history.specs.Replies.{Transcript, history, order_of, with_event, turn}
+use Rattle.crb_history.specs.Replies.{Transcript, history, order_of, with_event, turn, none_fails}
 use Rattle.vt_script.specs.declared.event.Event.TheVariants.{Work}
 use Rattle.vt_world.specs.Follows.{WorldState, Follows}
 
@@ -32,10 +32,6 @@ event_of_access a value = event_by a.write a value
 -- whether the access reads START
 abbrev pub reads_start : Access → Bool
 reads_start a = is_none a.write && a.offset == CTRL_START
-
--- no call fails
-abbrev pub none_fails : ℕ → Bool
-none_fails calls = false
 
 -- the history after a step of the worker, none of whose calls fails
 abbrev pub after_turn : Base → History → History

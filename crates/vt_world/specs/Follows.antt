@@ -29,7 +29,7 @@ use Rattle.crb_history.specs.Device.{registers_of, phase_of, number_of, buffer, 
 use Rattle.crb_history.specs.Device.Stage.{Waiting, Claimed, HasSent, HasRun}
 use Rattle.crb_history.specs.Asked.{held_back, asked_in_time}
 use Rattle.crb_history.specs.Legal.{Legal, IsAt}
-use Rattle.crb_history.specs.Replies.{Exchange, Transcript, history, order_of, call_count, fails_within, Answers}
+use Rattle.crb_history.specs.Replies.{Transcript, exchange, history, order_of, call_count, fails_within, Answers}
 use Rattle.vt_script.specs.declared.event.Event.{Event as Line}
 use Rattle.vt_script.specs.declared.reply.Reply.{Reply}
 use Rattle.vt_script.specs.declared.reply.Reply.TheVariants as replied
@@ -41,9 +41,10 @@ pub record HoldsBytes (b : Base) (p : History) (bytes : List ℕ) : Type 0 where
   pub size : length bytes ≡ 3968
   pub each : (i : ℕ) → i < 3968 → slice_index bytes i ≡ buffer b p i
 
--- the same, where the device has the buffer
+-- the same, where the device or a job that waits has the buffer
 abbrev pub HoldsBuffer : Base → History → Slot → Type 0
 HoldsBuffer b p (Home bytes) = HoldsBytes b p bytes
+HoldsBuffer b p (Queued job) = HoldsBytes b p job.buf
 HoldsBuffer b p _ = Unit {0}
 
 -- the device's values; a device that is lost shows no buffer
@@ -142,10 +143,11 @@ pub record Stands (b : Base) (p : History) (d : DeviceState) (progress : Progres
   pub quiet : IsQuiet l
   pub link : is_lost (phase_of b p) ≡ false → IsLinkAfter b p l
 
--- the device's port has in hand what the worker has, and is free where the buffer is home
+-- the device's port has in hand what the worker has, and is free where the buffer is home; the device isn't held
 pub record InStep (d : DeviceParts Standing) (progress : Progress) : Type 0 where
   pub hand : hand_of d.port ≡ number_in_hand progress
   pub port : is_nothing d.port ≡ is_some d.home
+  pub runs : d.held ≡ false
 
 -- a world, seen part by part
 pub record WorldState : Type 0 where
@@ -159,10 +161,6 @@ pub record Follows (b : Base) (t : Transcript) (w : WorldState) : Type 0 where
   pub fit : IsFit b.tpm
   pub stands : Stands b (history b t) (plain_device w.device) w.progress w.link
   pub due : IsDue (order_of t) (call_count b t) w.due
-
--- one more line and its reply
-abbrev pub exchange : Line → Reply → Exchange
-exchange line reply = record { line = Some line; reply = reply }
 
 -- one line and its reply lead on
 pub record Steps (b : Base) (t : Transcript) (line : Line) (reply : Reply) (new : WorldState) : Type 0 where

@@ -24,12 +24,15 @@
 //! device that is lost.
 #![tactic(auto)]
 
+mod blobs;
 mod bus;
+mod saving;
 #[cfg(test)]
 mod tests;
 mod waiting;
 mod wires;
 mod world;
 
+pub use saving::{Loaded, Saved};
 pub use wires::MemWires;
 pub use world::World;

@@ -1,5 +1,5 @@
 //! Lines done on a world, with their replies.
-ghost use Rattle.std.specs.Prelude.{IfSome};
+ghost use Rattle.std.specs.Prelude.{◌≤◌, IfSome};
 ghost use Rattle.vt_script.specs.Replies.{IsPrintable};
 
 use super::*;
@@ -7,6 +7,7 @@ use move_codec::HostName;
 use std::alloc::{AllocError, Global};
 use std::test::*;
 use tpm_core::SEED_SIZE;
+use vt_base::{Malformed, Why};
 use vt_script::Reply::{
     Accepted, Asked, Cancelled, Claim, Done, Exec, Idle, Link, Lost, Reset, Sent, Value,
 };
@@ -320,5 +321,38 @@ fn each_call_may_be_the_one_that_fails(rt: HostRuntime) -> Result<(), Fail> {
     for failing in 0..=CALLS {
         assert_eq!(rt; first_wrong(rt.alloc(), failing)?, None, "call {failing}");
     }
+    Ok(())
+}
+
+// The saved stream of a host on which no line was done.
+const FRESH: [u8; 101] = [
+    0x43, 0x52, 0x42, 0x53, 1, 0, 0, 0, 0x5C, // the head
+    0x43, 0x52, 0x42, 0x44, 1, 0, 0, 0, 0x0E, 0, 0, 0, 0, 0, 0, 0, 0, 0, 0, 0, 0, 0, 0, 0x43, 0x52,
+    0x42, 0x50, 1, 0, 0, 0, 0x28, 0, 0, 0, 0, 0, 0, 0, 0, 0, 0, 0, 0, 0, 0, 0, 0, 0, 0, 0, 0, 0, 0,
+    0, 0, 0, 0, 0, 0, 0, 0, 0, 0, 0, 0, 0, 0, 0, 0, 0, 1, 0x43, 0x52, 0x42, 0x56, 1, 0, 0, 0, 1, 0,
+    0x43, 0x52, 0x42, 0x5A, 1, 0, 0, 0, 1, 0,
+];
+
+// Why and where the bytes are no saved stream, if they are none.
+fn fault_of(alloc: Global, bytes: &[u8], piece: u32) -> Result<Option<Malformed>, AllocError>
+    requires least { 1 ≤ piece }
+    requires most { piece ≤ 4096 }
+{
+    match World::load(alloc, bytes, piece)? {
+        Loaded::World(_) => Ok(None),
+        Loaded::Bad(fault) => Ok(Some(fault)),
+    }
+}
+
+#[test]
+fn a_stream_is_loaded(rt: HostRuntime) -> Result<(), Fail> {
+    for piece in [1, 7, 4096] {
+        assert_eq!(rt; fault_of(rt.alloc(), &FRESH, piece)?, None);
+    }
+    let cut = Malformed {
+        why: Why::Cut,
+        place: 100,
+    };
+    assert_eq!(rt; fault_of(rt.alloc(), &FRESH[..100], 4096)?, Some(cut));
     Ok(())
 }

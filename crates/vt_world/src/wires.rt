@@ -4,7 +4,7 @@ ghost use Rattle.vt_base.specs.Faults.{Rose};
 ghost use Rattle.tpm_core.specs.Fresh.{manufactured};
 ghost use Rattle.ctrl_client.specs.Desk.{is_nil};
 ghost use Rattle.ctrl_client.specs.Link.{cut, Handed, opened, lane_of, taken};
-ghost use Rattle.vt_world.specs.Wires.{fresh_wires, is_due, passed};
+ghost use Rattle.vt_world.specs.Wires.{fresh_wires, link_of, is_due, passed};
 
 use crate::waiting::{Replies, Responses};
 use ctrl_client::Wires;
@@ -40,13 +40,36 @@ impl MemWires {
         requires most { piece ≤ 4096 }
         ensures { IfOk result (λ w. w ≡ fresh_wires (Some (manufactured seed)) piece) }
     {
+        MemWires::over(alloc, Emulator::new(alloc, seed, piece)?)
+    }
+
+    // Wires to this emulator, on which nothing waits.
+    fn over(alloc: Global, emulator: Emulator) -> Result<MemWires, AllocError>
+        ensures { IfOk result (λ w. w ≡ record { link = link_of emulator [] []; due = None; faults = 0 }) }
+    {
         Ok(MemWires {
-            emulator: Emulator::new(alloc, seed, piece)?,
+            emulator,
             replies: Replies::new(),
             responses: Responses::new(alloc)?,
             due: None,
             faults: 0,
         })
+    }
+
+    /// Wires to a new emulator that is off and has no TPM. A reply has at most `piece` bytes of a blob.
+    pub fn empty(alloc: Global, piece: u32) -> Result<MemWires, AllocError>
+        requires least { 1 ≤ piece }
+        requires most { piece ≤ 4096 }
+        ensures { IfOk result (λ w. w ≡ fresh_wires None piece) }
+    {
+        MemWires::over(alloc, Emulator::empty(alloc, piece)?)
+    }
+
+    /// The emulator behind the wires, as it stands.
+    pub fn emulator(&self) -> &Emulator
+        ensures desk { result.now.desk ≡ self.now.link.desk }
+    {
+        &self.emulator
     }
 
     /// Lets the call of this number, from now on, fail; the first one has the number 1.

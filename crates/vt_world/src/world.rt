@@ -20,9 +20,9 @@ use vt_script::{Event, Reply};
 /// A device, its worker, and an emulator behind wires in memory.
 #[derive(Drop)]
 pub struct World {
-    device: Device<PlainPort>,
-    worker: Worker,
-    wires: MemWires,
+    pub(crate) device: Device<PlainPort>,
+    pub(crate) worker: Worker,
+    pub(crate) wires: MemWires,
 }
 
 impl Model for World {
