@@ -29,7 +29,8 @@ use Rattle.crb_history.specs.Replies.{with_event, turn_at, Turning, turning_of, 
 use Rattle.vt_script.specs.declared.event.Event.TheVariants.{Work}
 use Rattle.vt_script.specs.declared.reply.Reply.TheVariants as replied
 use Rattle.vt_world.specs.Follows.{WorldState}
-use Rattle.vt_world.specs.Bus.{IsAfter, Leads, after_turn, none_fails}
+use Rattle.crb_history.specs.Replies.{none_fails}
+use Rattle.vt_world.specs.Bus.{IsAfter, Leads, after_turn}
 use Rattle.crbsim.specs.Calls.{IsAtRest, Calls}
 use Rattle.crb_history.proofs.Bytes.{take-bytes_at, take-drop-bytes_at}
 use Rattle.crbsim.proofs.Driving.{Found, found-at, reaches-split, Stands, Runs, requested, readied, started, resting, take-all}

@@ -3,3 +3,5 @@ pub mod Endings
 pub mod Words
 pub mod Driving
 pub mod Answering
+pub mod Suspending
+pub mod Resuming

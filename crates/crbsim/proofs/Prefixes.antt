@@ -11,12 +11,14 @@ use Rattle.vt_script.specs.Drive.{drive_of, hex_line}
 use Rattle.vt_script.specs.Script.{lines_of, event_of}
 use Rattle.tpm_core.specs.Answers.{answer}
 use Rattle.tpm_core.specs.Answers.Entry.{Executed}
-use Rattle.crb_history.specs.Replies.{Transcript}
+use Rattle.crb_history.specs.Base.{Base}
+use Rattle.crb_history.specs.Replies.{Transcript, line_of}
 use Rattle.crbsim.specs.Calls.{Responds}
 use Rattle.crbsim.specs.Driven.{driven, past_of}
-use Rattle.vt_world.specs.Follows.{WorldState, Follows, Steps, exchange}
+use Rattle.crb_history.specs.Replies.{exchange}
+use Rattle.vt_world.specs.Follows.{WorldState, Follows, Steps}
 use Rattle.crbsim.specs.Start.{start}
-use Rattle.crbsim.specs.Run.{meanings, in_order, line_of, spelled, texts, replayed, driven_by}
+use Rattle.crbsim.specs.Run.{meanings, in_order, spelled, texts, followed, driven_by}
 use Rattle.crbsim.specs.Loop.{AreDone, StandsAt, DrivesAt}
 
 length-in_order : {A B : Type 0} (f : A → B) (t : List A) → length (in_order f t) ≡ length t
@@ -33,13 +35,13 @@ get-behind (x ∷ xs) ys y n is = rw is (get-behind xs ys y (length xs) refl)
 
 module _ {A L : Type 0} (grammar : List ℕ → Option L) (line : A → Option L) (script rest : List ℕ) (t : List A) (done : AreDone grammar script rest (in_order line t)) where
   -- one more line is done
-  done-more : (x : A) (text after : List ℕ) → lines_of rest ≡ text ∷ lines_of after → grammar text ≡ line x → AreDone grammar script after (in_order line (x ∷ t))
+  pub done-more : (x : A) (text after : List ℕ) → lines_of rest ≡ text ∷ lines_of after → grammar text ≡ line x → AreDone grammar script after (in_order line (x ∷ t))
   done-more x text after cut is =
       let more : meanings grammar rest ≡ line x ∷ meanings grammar after = ap (map grammar) cut ∙ ap (λ l. l ∷ meanings grammar after) is in
       done ∙ ap (λ ls. in_order line t ++ ls) more ∙ sym (append_assoc (in_order line t) (line x ∷ []) (meanings grammar after))
 
   -- the lines that are done are the first of the script
-  done-front : in_order line t ≡ take (length t) (meanings grammar script)
+  pub done-front : in_order line t ≡ take (length t) (meanings grammar script)
   done-front = sym (ap (take (length t)) done ∙ take-front (in_order line t) (meanings grammar rest) (length t) (sym (length-in_order line t)))
 
   -- all lines are done
@@ -51,30 +53,30 @@ module _ {A L : Type 0} (grammar : List ℕ → Option L) (line : A → Option L
       length-end xs none end = rw end (grind (arith, common_steps))
 
   -- the first line that isn't in the grammar
-  done-bad : (text after : List ℕ) → lines_of rest ≡ text ∷ lines_of after → grammar text ≡ None → slice_get (meanings grammar script) (length t) ≡ Some None
+  pub done-bad : (text after : List ℕ) → lines_of rest ≡ text ∷ lines_of after → grammar text ≡ None → slice_get (meanings grammar script) (length t) ≡ Some None
   done-bad text after cut bad =
       rw (done, cut, get-behind (in_order line t) (meanings grammar after) (grammar text) (length t) (sym (length-in_order line t))) (ap Some bad)
 
-pub stands-start : (script : List ℕ) (world : WorldState) → Follows start [] world → StandsAt script script [] world
-stands-start script world follows = record { lines = refl; run = record { legal = tt; in_turn = tt }; follows = follows }
+pub stands-start : (b : Base) (script : List ℕ) (world : WorldState) → Follows b [] world → StandsAt b script script [] world
+stands-start b script world follows = record { lines = refl; run = record { legal = tt; in_turn = tt }; follows = follows }
 
 -- one more line of a replay
-pub stands-more : (script rest : List ℕ) (t : Transcript) (old new : WorldState) (text after : List ℕ) (line : Line) (reply : Reply) → StandsAt script rest t old → lines_of rest ≡ text ∷ lines_of after → event_of text ≡ Some line → Steps start t line reply new → StandsAt script after (exchange line reply ∷ t) new
-stands-more script rest t old new text after line reply stands cut is steps = record {
+pub stands-more : (b : Base) (script rest : List ℕ) (t : Transcript) (old new : WorldState) (text after : List ℕ) (line : Line) (reply : Reply) → StandsAt b script rest t old → lines_of rest ≡ text ∷ lines_of after → event_of text ≡ Some line → Steps b t line reply new → StandsAt b script after (exchange line reply ∷ t) new
+stands-more b script rest t old new text after line reply stands cut is steps = record {
   lines = done-more event_of line_of script rest t stands.lines (exchange line reply) text after cut is;
   run = record { legal = steps.legal stands.run.legal; in_turn = (stands.run.in_turn, steps.answers) };
   follows = steps.follows;
 }
 
 -- what the lines so far give
-pub stands-gives : (script rest : List ℕ) (t : Transcript) (world : WorldState) → StandsAt script rest t world → (replayed script).Gives (length t) (texts t)
-stands-gives script rest t world stands = (t, record { lines = done-front event_of line_of script rest t stands.lines; run = stands.run }, refl, refl)
+pub stands-gives : (b : Base) (script rest : List ℕ) (t : Transcript) (world : WorldState) → StandsAt b script rest t world → (followed b script).Gives (length t) (texts t)
+stands-gives b script rest t world stands = (t, record { lines = done-front event_of line_of script rest t stands.lines; run = stands.run }, refl, refl)
 
-pub stands-all : (script rest : List ℕ) (t : Transcript) (world : WorldState) → StandsAt script rest t world → rest ≡ [] → length t ≡ length (lines_of script)
-stands-all script rest t world stands end = done-all event_of line_of script rest t stands.lines end
+pub stands-all : (b : Base) (script rest : List ℕ) (t : Transcript) (world : WorldState) → StandsAt b script rest t world → rest ≡ [] → length t ≡ length (lines_of script)
+stands-all b script rest t world stands end = done-all event_of line_of script rest t stands.lines end
 
-pub stands-bad : (script rest : List ℕ) (t : Transcript) (world : WorldState) (text after : List ℕ) → StandsAt script rest t world → lines_of rest ≡ text ∷ lines_of after → event_of text ≡ None → (replayed script).IsBad (length t)
-stands-bad script rest t world text after stands cut bad = done-bad event_of line_of script rest t stands.lines text after cut bad
+pub stands-bad : (b : Base) (script rest : List ℕ) (t : Transcript) (world : WorldState) (text after : List ℕ) → StandsAt b script rest t world → lines_of rest ≡ text ∷ lines_of after → event_of text ≡ None → (followed b script).IsBad (length t)
+stands-bad b script rest t world text after stands cut bad = done-bad event_of line_of script rest t stands.lines text after cut bad
 
 pub drives-start : (script : List ℕ) (world : WorldState) → Follows start [] world → DrivesAt script script [] world
 drives-start script world follows = record { done = refl; history = []; rest_at = record { after = record { transcript = []; follows = follows; unordered = refl; told = refl; legal = tt }; idle = refl }; past = refl }

@@ -1,12 +1,15 @@
 //! Runs scripts on one host in one process, a CRB device over an emulator: of guest accesses, worker steps and faults of the
-//! link between the two, or of commands that a polling driver sends.
+//! link between the two, or of commands that a polling driver sends. A host is saved at the end of a script, and another run
+//! goes on from what was saved.
 #![tactic(auto)]
 
 mod drive;
 mod output;
 mod replay;
 mod run;
+mod saved;
 mod start;
+mod suspend;
 #[cfg(test)]
 mod tests;
 

@@ -332,3 +332,151 @@ fn many_responses_are_written_in_parts(rt: HostRuntime) -> Result<(), Fail> {
     assert!(rt; output.starts_with(&written) && !written.is_empty());
     Ok(())
 }
+
+// The saved stream of a host on which no line was done.
+const FRESH: [u8; 101] = [
+    0x43, 0x52, 0x42, 0x53, 1, 0, 0, 0, 0x5C, // the head
+    0x43, 0x52, 0x42, 0x44, 1, 0, 0, 0, 0x0E, 0, 0, 0, 0, 0, 0, 0, 0, 0, 0, 0, 0, 0, 0, 0x43, 0x52,
+    0x42, 0x50, 1, 0, 0, 0, 0x28, 0, 0, 0, 0, 0, 0, 0, 0, 0, 0, 0, 0, 0, 0, 0, 0, 0, 0, 0, 0, 0, 0,
+    0, 0, 0, 0, 0, 0, 0, 0, 0, 0, 0, 0, 0, 0, 0, 0, 0, 1, 0x43, 0x52, 0x42, 0x56, 1, 0, 0, 0, 1, 0,
+    0x43, 0x52, 0x42, 0x5A, 1, 0, 0, 0, 1, 0,
+];
+
+// Runs a command over some bytes with others behind them.
+fn ran_over(
+    alloc: Global,
+    word: &str,
+    front: &[u8],
+    behind: &[u8],
+) -> Result<(Status, Vec<u8>), AllocError> {
+    let mut input = Vec::from_slice(alloc, front)?;
+    input.extend_from_slice(behind)?;
+    ran(alloc, &[word], &input, &[], AMPLE, &[])
+}
+
+#[test]
+fn a_host_is_saved(rt: HostRuntime) -> Result<(), Fail> {
+    let alloc = rt.alloc();
+    let (status, written) = ran_over(alloc, "suspend", b"", b"")?;
+    assert_eq!(rt; status, Status::Ok);
+    assert!(rt; written.as_slice() == FRESH.as_slice());
+    // What the script reads is written nowhere.
+    let (status, written) = ran_over(alloc, "suspend", b"r 0 4\nask\nwork\nreset\n", b"")?;
+    assert_eq!(rt; (status, written.len()), (Status::Ok, FRESH.len()));
+    let cases: [(&[u8], Status, &[u8]); 5] = [
+        (b"work\n", Status::NotYet, b"not yet 1\n"),
+        (b"work\nwork\nwork\n", Status::NotYet, b"not yet 1\n"),
+        (b"fail a 1\n", Status::Script, b"bad line 7\n"),
+        (b"work\nx\n", Status::Script, b"bad line 8\n"),
+        (b"\n", Status::Script, b"bad line 7\n"),
+    ];
+    for (lines, wanted, text) in cases {
+        let (status, written) = ran_over(alloc, "suspend", STARTUP.as_bytes(), lines)?;
+        assert_eq!(rt; status, wanted);
+        assert_eq!(rt; written.as_slice(), text);
+    }
+    Ok(())
+}
+
+#[test]
+fn a_saved_host_goes_on(rt: HostRuntime) -> Result<(), Fail> {
+    let alloc = rt.alloc();
+    let (status, stream) = ran_over(
+        alloc,
+        "suspend",
+        STARTUP.as_bytes(),
+        b"w 48 4 1\nw 48 4 0\n",
+    )?;
+    assert_eq!(rt; status, Status::Ok);
+    // The command that waited was cancelled: it is never executed.
+    let (status, written) = ran_over(alloc, "resume", &stream, b"r 48 4\nwork\nwork\nr 88 4\n")?;
+    assert_eq!(rt; status, Status::Ok);
+    assert_eq!(rt;
+        written.as_slice(),
+        b"00000000\nclaim 1\ncancelled 1\n00000909\n".as_slice()
+    );
+    let (status, stream) = ran_over(alloc, "suspend", STARTUP.as_bytes(), b"")?;
+    assert_eq!(rt; status, Status::Ok);
+    let lines = b"r 4c 4\nwork\nwork\nwork\nwork\nr 88 4\n";
+    let (status, written) = ran_over(alloc, "resume", &stream, lines)?;
+    assert_eq!(rt; status, Status::Ok);
+    assert_eq!(rt;
+        written.as_slice(),
+        b"00000001\nclaim 1\nsent 1\nexec 1\ndone 1\n00000000\n".as_slice()
+    );
+    // No script, and one whose first line is bad.
+    let (status, written) = ran_over(alloc, "resume", &stream, b"")?;
+    assert_eq!(rt; (status, written.len()), (Status::Ok, 0));
+    let (status, written) = ran_over(alloc, "resume", &stream, b"work\n\n")?;
+    assert_eq!(rt; status, Status::Script);
+    assert_eq!(rt; written.as_slice(), b"claim 1\nbad line 2\n".as_slice());
+    Ok(())
+}
+
+#[test]
+fn streams_are_checked(rt: HostRuntime) -> Result<(), Fail> {
+    let alloc = rt.alloc();
+    let mut changed = FRESH;
+    changed[8] = 0x5D;
+    changed[17] = 0x0F;
+    changed[20] = 1;
+    changed[31] = 1;
+    let cases: [(&str, &[u8], &[u8], Status, &[u8]); 8] = [
+        (
+            "check",
+            &FRESH,
+            b"",
+            Status::Ok,
+            b"saved stream 101 bytes\n",
+        ),
+        (
+            "check",
+            &FRESH[..100],
+            b"",
+            Status::Refused,
+            b"refused cut at 100\n",
+        ),
+        (
+            "check",
+            &FRESH,
+            &[0],
+            Status::Refused,
+            b"refused extra at 101\n",
+        ),
+        ("check", b"", b"", Status::Refused, b"refused cut at 0\n"),
+        (
+            "check",
+            b"CRBX",
+            b"",
+            Status::Refused,
+            b"refused magic at 3\n",
+        ),
+        (
+            "resume",
+            &FRESH[..100],
+            b"",
+            Status::Refused,
+            b"refused cut at 100\n",
+        ),
+        (
+            "resume",
+            &changed[..32],
+            &[0],
+            Status::Refused,
+            b"refused value at 32\n",
+        ),
+        (
+            "resume",
+            b"work\n",
+            b"",
+            Status::Refused,
+            b"refused magic at 0\n",
+        ),
+    ];
+    for (word, front, behind, wanted, text) in cases {
+        let (status, written) = ran_over(alloc, word, front, behind)?;
+        assert_eq!(rt; status, wanted);
+        assert_eq!(rt; written.as_slice(), text);
+    }
+    Ok(())
+}

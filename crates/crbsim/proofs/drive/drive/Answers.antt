@@ -9,7 +9,7 @@ use Rattle.crbsim.proofs.drive.drive.Goals as goal
 
 pub returns-in_default-clause-writes : goal.returns-in_default-clause-writes
 returns-in_default-clause-writes g c =
-    writes-nothing (g.K.Sink.written c.args.sink.now) (driven_by c.args.script.now) ([], refl, refl, refl)
+    writes-nothing (g.K.Sink.written c.args.sink.now) (driven_by c.args.script.now)
 
 pub loop-rest-init : goal.loop-rest-init
 loop-rest-init g c = record {
@@ -61,6 +61,8 @@ pub returns-clause-writes : goal.returns-clause-writes
 returns-clause-writes g c =
     let done = c.loop-rest.invariant.done in
     let end : length c.loop-rest.rest.now ≡ 0 = search rules in
-    writes-all (driven_by c.args.script.now) _ _ _ (length done.0) c.loop-rest.waiting.items (driven start.tpm done.0) c.requires (drives-gives c.args.script.now c.loop-rest.rest.now done.0 c.loop-rest.world done.1) done.2 c.finish-2.result
-    (drives-all c.args.script.now c.loop-rest.rest.now done.0 c.loop-rest.world done.1 (empty c.loop-rest.rest.now end))
+    let gives = drives-gives c.args.script.now c.loop-rest.rest.now done.0 c.loop-rest.world done.1 in
+    let all = drives-all c.args.script.now c.loop-rest.rest.now done.0 c.loop-rest.world done.1 (empty c.loop-rest.rest.now end) in
+    writes-all (driven_by c.args.script.now) _ _ _ (length done.0) c.loop-rest.waiting.items (driven start.tpm done.0) c.requires gives done.2 c.finish-2.result
+    (refl, rw (← all) gives)
     (rw c.deref-2.ensures.value at c.finish-2.ensures.writes)
