@@ -10,8 +10,6 @@ mod run;
 mod saved;
 mod start;
 mod suspend;
-#[cfg(test)]
-mod tests;
 
 pub use run::run;
 use std::io::ErrorKind;
