@@ -1,8 +1,8 @@
 -- Calls that are to fail, and the counter that passes them.
-use Rattle.std.proofs.Common.{◌≡◌, ℕ, ◌≤◌, true, false, nat_eq, nat_lt, List, [], ◌∷◌, refl, arith}
+use Rattle.std.proofs.Common.{◌≡◌, ℕ, ◌≤◌, Result, Ok, Err, true, false, nat_eq, nat_lt, List, [], ◌∷◌, refl, arith}
 use Rattle.std.proofs.lemmas.Grind.{common_steps}
 use Rattle.std.specs.List.{list_all, list_any}
-use Rattle.vt_base.specs.Faults.{counted}
+use Rattle.vt_base.specs.Faults.{counted, IsCounted, HasCause}
 use Rattle.vt_base.specs.Memory.{Plan, called, is_steady, is_to_fail}
 
 none_at : (failing : List ℕ) (n : ℕ) → list_all (λ call. nat_lt call n) failing ≡ true → list_any (λ call. nat_eq call n) failing ≡ false
@@ -20,3 +20,8 @@ next_is_sure plan sure = none_at plan.failing (counted plan.calls) sure
 -- and none is after it
 pub later_are_sure : (plan : Plan) → is_steady plan ≡ true → is_steady (called plan) ≡ true
 later_are_sure plan sure = all_below plan.failing (counted plan.calls) (counted (counted plan.calls)) (omega arith) sure
+
+-- one more that was counted is a cause
+pub counted_is_cause : {T E : Type 0} (before now : ℕ) (result : Result T E) → IsCounted before now → HasCause before now result
+counted_is_cause before now (Ok value) is = record { later = is.0; failed = tt }
+counted_is_cause before now (Err e) is = record { later = is.0; failed = omega (arith, is.1) }

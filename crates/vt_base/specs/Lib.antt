@@ -7,6 +7,7 @@ pub mod Memory
 pub mod Numbers
 pub mod Output
 pub mod Refusing
+pub mod Standard
 pub mod Status
 pub mod Stream
 pub mod Verdict

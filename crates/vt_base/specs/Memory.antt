@@ -36,9 +36,13 @@ is_steady plan = list_all (λ call. nat_lt call (counted plan.calls)) plan.faili
 abbrev pub with_fault : Plan → Plan
 with_fault plan = record { failing = plan.failing; calls = plan.calls; faults = counted plan.faults }
 
--- the plan after one more call
+-- the plan after one more call, which failed or did not
+abbrev pub called_as : Bool → Plan → Plan
+called_as failed plan = record { failing = plan.failing; calls = counted plan.calls; faults = if failed then counted plan.faults else plan.faults }
+
+-- the plan after one more call that fails by it alone
 abbrev pub called : Plan → Plan
-called plan = record { failing = plan.failing; calls = counted plan.calls; faults = if is_to_fail plan then counted plan.faults else plan.faults }
+called plan = called_as (is_to_fail plan) plan
 
 -- whether a write of these bytes is to fail: by the plan, or for want of room
 abbrev pub is_to_refuse : MemorySink → List ℕ → Bool

@@ -1,9 +1,9 @@
 // A source and a sink in memory, whose calls fail by plan.
 ghost use Rattle.std.specs.Io.{ReadsAtMost, WritesAtMost};
 ghost use Rattle.std.specs.Io.KnownBytes.{ReadConsumes, WriteAppends};
-ghost use Rattle.std.specs.Prelude.{◌≡◌, ◌+◌, ◌<◌, ◌≤◌, length, min, take, IfOk, IsOk, IsTrue, Some, [], is_err};
-ghost use Rattle.vt_base.specs.Faults.{HasCause, counted};
-ghost use Rattle.vt_base.specs.Memory.{called, is_steady, is_to_fail, is_to_refuse, planned, sure_room};
+ghost use Rattle.std.specs.Prelude.{◌≡◌, ◌+◌, ◌<◌, ◌≤◌, length, min, take, drop, IfOk, IsOk, IsTrue, MatchResult, Some, [], is_err};
+ghost use Rattle.vt_base.specs.Faults.{Counts};
+ghost use Rattle.vt_base.specs.Memory.{called, called_as, is_steady, is_to_fail, is_to_refuse, planned, sure_room};
 
 use crate::{Bytes, Failed, FaultPlan, Sink, Source};
 use std::alloc::{AllocError, Global};
@@ -52,7 +52,7 @@ impl Source for MemSource {
     fn read(&mut self, into: &mut [u8]) -> Result<usize, Failed>
         ensures bound { ReadsAtMost result into.new }
         ensures bytes { ReadConsumes (Some self.old.left) (Some self.new.left) result into.new }
-        ensures cause { HasCause self.old.plan.faults self.new.plan.faults result }
+        ensures counts { Counts self.old.plan.faults self.new.plan.faults result }
         ensures steady { IsTrue (is_steady self.old.plan) → IsOk result }
         ensures stays { IsTrue (is_steady self.old.plan) → IsTrue (is_steady self.new.plan) }
 
@@ -60,6 +60,7 @@ impl Source for MemSource {
         ensures plan { self.new.plan ≡ called self.old.plan }
         ensures fails { is_err result ≡ is_to_fail self.old.plan }
         ensures fills { IfOk result (λ n. n ≡ min (length self.old.left) (length into.new)) }
+        ensures rest { MatchResult result (λ n. drop n into.new ≡ drop n into.old) (λ _. into.new ≡ into.old) }
     {
         self.plan.call()?;
         let (_, left) = self.bytes.as_slice().split_at(self.place);
@@ -73,6 +74,7 @@ impl Source for MemSource {
 fn copy_front(into: &mut [u8], bytes: &[u8]) -> usize
     ensures count { result ≡ min (length bytes.now) (length into.old) }
     ensures front { take result into.new ≡ take result bytes.now }
+    ensures rest { drop result into.new ≡ drop result into.old }
     ensures length { length into.new ≡ length into.old }
 {
     let count = bytes.len().min(into.len());
@@ -135,16 +137,15 @@ impl Sink for MemSink {
         ensures bound { WritesAtMost result bytes.now }
         ensures some { 0 < length bytes.now → IfOk result (λ n. 0 < n) }
         ensures bytes { WriteAppends (Some self.old.written) (Some self.new.written) result bytes.now }
-        ensures cause { HasCause self.old.plan.faults self.new.plan.faults result }
+        ensures counts { Counts self.old.plan.faults self.new.plan.faults result }
         ensures sure { 0 < length bytes.now → length bytes.now ≤ sure_room self.old → IsOk result }
         ensures room { 0 < length bytes.now → length bytes.now ≤ sure_room self.old → IfOk result (λ n. sure_room self.new + n ≡ sure_room self.old) }
 
         // It fails by its plan or for want of room, and takes all that fits.
-        ensures failing { self.new.plan.failing ≡ self.old.plan.failing }
-        ensures calls { self.new.plan.calls ≡ counted self.old.plan.calls }
+        ensures plan { self.new.plan ≡ called_as (is_to_refuse self.old bytes.now) self.old.plan }
         ensures fails { is_err result ≡ is_to_refuse self.old bytes.now }
         ensures fills { IfOk result (λ n. n ≡ min (length bytes.now) self.old.space) }
-        ensures space { IfOk result (λ n. self.new.space + n ≡ self.old.space) }
+        ensures space { MatchResult result (λ n. self.new.space + n ≡ self.old.space) (λ _. self.new.space ≡ self.old.space) }
     {
         self.plan.call()?;
         let space = self.room - self.bytes.len();

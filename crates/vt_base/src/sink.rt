@@ -2,7 +2,7 @@
 ghost use Rattle.std.specs.Prelude.{◌≡◌, ◌≤◌, ◌<◌, ◌+◌, ℕ, List, Option, length, IsOk, IfOk};
 ghost use Rattle.std.specs.Io.{WritesAtMost};
 ghost use Rattle.std.specs.Io.KnownBytes.{WriteAppends};
-ghost use Rattle.vt_base.specs.Faults.{HasCause};
+ghost use Rattle.vt_base.specs.Faults.{Counts, HasCause};
 ghost use Rattle.vt_base.specs.Output.{WritesAll};
 
 use crate::Failed;
@@ -24,7 +24,7 @@ pub trait Sink {
         ensures bound { WritesAtMost result bytes.now }
         ensures some { 0 < length bytes.now → IfOk result (λ n. 0 < n) }
         ensures bytes { WriteAppends (written self.old) (written self.new) result bytes.now }
-        ensures cause { HasCause (faults self.old) (faults self.new) result }
+        ensures counts { Counts (faults self.old) (faults self.new) result }
         ensures room { 0 < length bytes.now → length bytes.now ≤ room self.old → IfOk result (λ n. room self.new + n ≡ room self.old) }
         ensures sure { 0 < length bytes.now → length bytes.now ≤ room self.old → IsOk result };
 }
@@ -32,6 +32,7 @@ pub trait Sink {
 /// Writes all bytes, in as many writes as it takes. It gives up at the first that fails; the bytes before it are written.
 pub fn write_all<K: Sink>(sink: &mut K, bytes: &[u8]) -> Result<(), Failed>
     ensures all { WritesAll (K.written sink.old) (K.written sink.new) result bytes.now }
+    ensures counts { Counts (K.faults sink.old) (K.faults sink.new) result }
     ensures cause { HasCause (K.faults sink.old) (K.faults sink.new) result }
     ensures sure { length bytes.now ≤ K.room sink.old → IsOk result }
     ensures room { length bytes.now ≤ K.room sink.old → K.room sink.new + length bytes.now ≡ K.room sink.old }

@@ -1,9 +1,9 @@
 // Where bytes come from.
-ghost use Rattle.std.specs.Prelude.{◌≡◌, ◌≢◌, ◌≤◌, ◌<◌, ℕ, List, Bool, Option, IsTrue, IsOk};
+ghost use Rattle.std.specs.Prelude.{◌≡◌, ◌≢◌, ◌+◌, ◌≤◌, ◌<◌, ℕ, List, Bool, Option, IsTrue, IsOk};
 ghost use Rattle.std.specs.Io.{ReadsAtMost};
 ghost use Rattle.std.specs.Io.KnownBytes.{ReadConsumes};
-ghost use Rattle.vt_base.specs.Faults.{HasCause, Rose};
-ghost use Rattle.vt_base.specs.Input.{EndsWhole, ReadWhole};
+ghost use Rattle.vt_base.specs.Faults.{Counts, Rose};
+ghost use Rattle.vt_base.specs.Input.{CountsInput, EndsWhole, LosesAtMost, ReadWhole};
 
 use crate::Failed;
 use std::alloc::Global;
@@ -24,7 +24,7 @@ pub trait Source {
     fn read(&mut self, into: &mut [u8]) -> Result<usize, Failed>
         ensures bound { ReadsAtMost result into.new }
         ensures bytes { ReadConsumes (left self.old) (left self.new) result into.new }
-        ensures cause { HasCause (faults self.old) (faults self.new) result }
+        ensures counts { Counts (faults self.old) (faults self.new) result }
         ensures steady { IsTrue (steady self.old) → IsOk result }
         ensures stays { IsTrue (steady self.old) → IsTrue (steady self.new) };
 }
@@ -50,6 +50,8 @@ const CHUNK: usize = 4096;
 pub fn read_all<S: Source>(alloc: Global, source: &mut S, limit: usize) -> Input
     ensures input { ReadWhole (S.left source.old) limit result }
     ensures ended { EndsWhole (S.left source.new) result }
+    ensures gone { LosesAtMost (S.left source.old) (S.left source.new) (limit + 4096) }
+    ensures counts { CountsInput (S.faults source.old) (S.faults source.new) result }
     ensures fault { result ≡ Input.Fault → Rose (S.faults source.old) (S.faults source.new) }
     ensures later { S.faults source.old ≤ S.faults source.new }
     ensures steady { IsTrue (S.steady source.old) → result ≢ Input.Fault }

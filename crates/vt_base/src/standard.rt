@@ -1,11 +1,11 @@
-// Sources and sinks over readers and writers of std. They tell nothing of what stands behind them.
-ghost use Rattle.std.specs.Prelude.{◌≡◌, false, None};
+// Sources and sinks over readers and writers of std. They tell what the reader or the writer tells.
+ghost use Rattle.std.specs.Prelude.{◌≡◌, false};
 
 use crate::{Failed, Sink, Source};
 use std::io::{Read, Write};
 use std::marker::Model;
 
-/// A source over any reader of std. All that it tells is its count of faults, which stays at its last value.
+/// A source over any reader of std, with a count of its faults, which stays at its last value.
 #[derive(Drop)]
 pub struct StdSource<R> {
     inner: R,
@@ -13,26 +13,26 @@ pub struct StdSource<R> {
 }
 
 impl<R> Model for StdSource<R> {
-    ghost use Rattle.std.specs.Prelude.{ℕ};
+    ghost use Rattle.vt_base.specs.Standard.{Adapted};
 
-    ghost Value = { ℕ };
+    ghost Value = { Adapted R };
 
-    ghost view = { λ s. s.faults };
+    ghost view = { λ s. record { inner = s.inner; faults = s.faults } };
 }
 
 impl<R> StdSource<R> {
     /// A source over this reader, with no fault yet.
     pub fn new(inner: R) -> Self
-        ensures faults { result ≡ 0 }
+        ensures start { result ≡ record { inner = inner; faults = 0 } }
     {
         StdSource { inner, faults: 0 }
     }
 }
 
 impl<R: Read> Source for StdSource<R> {
-    ghost left = { λ _. None };
+    ghost left = { λ s. R.remaining s.inner };
 
-    ghost faults = { λ s. s };
+    ghost faults = { λ s. s.faults };
 
     ghost steady = { λ _. false };
 
@@ -47,7 +47,7 @@ impl<R: Read> Source for StdSource<R> {
     }
 }
 
-/// A sink over any writer of std. All that it tells is its count of faults, which stays at its last value.
+/// A sink over any writer of std, with a count of its faults, which stays at its last value.
 #[derive(Drop)]
 pub struct StdSink<W> {
     inner: W,
@@ -55,26 +55,26 @@ pub struct StdSink<W> {
 }
 
 impl<W> Model for StdSink<W> {
-    ghost use Rattle.std.specs.Prelude.{ℕ};
+    ghost use Rattle.vt_base.specs.Standard.{Adapted};
 
-    ghost Value = { ℕ };
+    ghost Value = { Adapted W };
 
-    ghost view = { λ s. s.faults };
+    ghost view = { λ s. record { inner = s.inner; faults = s.faults } };
 }
 
 impl<W> StdSink<W> {
     /// A sink over this writer, with no fault yet.
     pub fn new(inner: W) -> Self
-        ensures faults { result ≡ 0 }
+        ensures start { result ≡ record { inner = inner; faults = 0 } }
     {
         StdSink { inner, faults: 0 }
     }
 }
 
 impl<W: Write> Sink for StdSink<W> {
-    ghost written = { λ _. None };
+    ghost written = { λ s. W.contents s.inner };
 
-    ghost faults = { λ s. s };
+    ghost faults = { λ s. s.faults };
 
     ghost room = { λ _. 0 };
 

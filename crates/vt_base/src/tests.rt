@@ -128,8 +128,12 @@ fn adapters_pass_bytes_on(rt: HostRuntime) -> Result<(), Fail> {
     let mut source = StdSource::new(&bytes[..]);
     let input = read_all(rt.alloc(), &mut source, 3);
     assert_eq!(rt; told(&input), ("whole", 3));
-    let mut sink = StdSink::new(Vec::new(rt.alloc()));
+    // A writer with room for four bytes takes three, then one of two, and no more.
+    let mut room = [0; 4];
+    let mut sink = StdSink::new(&mut room[..]);
     assert_eq!(rt; write_all(&mut sink, &bytes), Ok(()));
+    assert_eq!(rt; write_all(&mut sink, &[4, 5]), Err(Failed));
+    assert_eq!(rt; room, [1, 2, 3, 4]);
     Ok(())
 }
 

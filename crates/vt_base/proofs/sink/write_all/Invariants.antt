@@ -6,7 +6,7 @@ use Rattle.vt_base.proofs.sink.write_all.Given as goal
 abbrev pub invariant-loop-rest : goal.invariant-loop-rest
 invariant-loop-rest g l = record {
   parts : (front : List ℕ) × (front ++ l.rest ≡ l.bytes) × Appends (g.K.Sink.written l.fn.sink) (g.K.Sink.written l.sink) front;
-  later : g.K.Sink.faults l.fn.sink ≤ g.K.Sink.faults l.sink;
+  same : g.K.Sink.faults l.sink ≡ g.K.Sink.faults l.fn.sink;
   sure : length l.bytes ≤ g.K.Sink.room l.fn.sink → (length l.rest ≤ g.K.Sink.room l.sink) × (g.K.Sink.room l.sink + length l.bytes ≡ g.K.Sink.room l.fn.sink + length l.rest);
 }
 
