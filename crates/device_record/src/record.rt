@@ -1,6 +1,6 @@
 //! The record of a device.
 
-ghost use Rattle.std.specs.Prelude.{◌≡◌, ◌≢◌, ◌≤◌, true, take, OnOk, OnErr, IfErr};
+ghost use Rattle.std.specs.Prelude.{◌≡◌, ◌≢◌, ◌≤◌, true, take, drop, OnOk, OnErr, IfErr};
 ghost use Rattle.crb_machine.specs.Values.{AreFit, held_values};
 ghost use Rattle.crb_machine.specs.Over.{IsSound, HasInHand};
 ghost use Rattle.device_record.specs.Records.{record_text, IsRecord};
@@ -21,6 +21,7 @@ pub fn write_record<P: Port>(device: &Device<P>, into: &mut [u8; RECORD_ROOM]) -
     requires working { device.now.regs.phase ≢ Phase.Lost }
 
     ensures text { take result into.new ≡ record_text (held_values device.now) }
+    ensures rest { drop result into.new ≡ drop result into.old }
     ensures fit { AreFit (held_values device.now) }
     ensures within { result ≤ 3991 }
 {

@@ -1,6 +1,6 @@
 //! Records written.
 
-ghost use Rattle.std.specs.Prelude.{◌≡◌, ◌+◌, ◌≤◌, ◌++◌, length, take};
+ghost use Rattle.std.specs.Prelude.{◌≡◌, ◌+◌, ◌≤◌, ◌++◌, length, take, drop};
 ghost use Rattle.device_record.specs.Records.{trimmed, header_text};
 
 use crate::fields::{Fields, flag_byte, phase_code};
@@ -39,7 +39,8 @@ fn header(fields: &Fields) -> [u8; HEADER_SIZE]
 // Writes bytes behind the first `at` ones.
 fn put_at(into: &mut [u8], at: usize, bytes: &[u8])
     requires room { at + length bytes.now ≤ length into.old }
-    ensures { take (at + length bytes.now) into.new ≡ take at into.old ++ bytes.now }
+    ensures front { take (at + length bytes.now) into.new ≡ take at into.old ++ bytes.now }
+    ensures behind { drop (at + length bytes.now) into.new ≡ drop (at + length bytes.now) into.old }
 {
     into[at..at + bytes.len()].copy_from_slice(bytes);
 }
@@ -47,7 +48,8 @@ fn put_at(into: &mut [u8], at: usize, bytes: &[u8])
 /// Writes a header and the content at the front.
 pub fn put_record(fields: &Fields, content: &[u8], into: &mut [u8])
     requires room { 23 + length content.now ≤ length into.old }
-    ensures { take (23 + length content.now) into.new ≡ header_text fields.now ++ content.now }
+    ensures text { take (23 + length content.now) into.new ≡ header_text fields.now ++ content.now }
+    ensures behind { drop (23 + length content.now) into.new ≡ drop (23 + length content.now) into.old }
 {
     put_at(into, 0, &header(fields));
     put_at(into, HEADER_SIZE, content);
