@@ -12,6 +12,10 @@ number_at w at bytes = from_be_bytes w (take (byte_len w) (drop at bytes))
 abbrev pub is_tag : ℕ → Bool
 is_tag tag = tag == NO_SESSIONS || tag == SESSIONS
 
+-- the tag of a response
+abbrev pub is_response_tag : ℕ → Bool
+is_response_tag tag = tag == NO_SESSIONS || tag == SESSIONS || tag == RSP_COMMAND
+
 -- the code of a command that is known
 abbrev pub is_known : ℕ → Bool
 is_known code = code == STARTUP || code == SHUTDOWN || code == GET_RANDOM || code == PCR_READ || code == PCR_EXTEND
