@@ -1,16 +1,17 @@
 -- The registers that are read, as a loop finds them.
-use Rattle.std.proofs.Common.{◌≡◌, ℕ, zero, suc, ◌+◌, ◌-◌, ◌<◌, ◌≤◌, true, false, cond, List, [], ◌∷◌, ◌++◌, length, get_or, take, drop, filter, refl, sym, ap, ◌∙◌, arith, append_assoc}
+use Rattle.std.proofs.Common.{◌≡◌, ℕ, zero, suc, ◌+◌, ◌-◌, ◌<◌, ◌≤◌, true, false, cond, List, [], ◌∷◌, ◌++◌, length, get_or, inl, inr, take, drop, filter, refl, sym, ap, ◌∙◌, arith, append_assoc}
 use Rattle.std.specs.List.{range_with_len, flat_map}
-use Rattle.std.proofs.Math.Seq.{drop-cons}
-use Rattle.std.proofs.lemmas.List.{append-nil, take-append-le, take_all, drop_all, length-take, length-append}
+use Rattle.std.proofs.Math.Seq.{drop-cons, take-append-add, take-nil}
+use Rattle.std.proofs.lemmas.List.{append-nil, take-append-le, take_all, drop_all, length-take, length-append, take-map}
 use Rattle.std.proofs.lemmas.List.Elements.{filter-append, All-append, All-map, All-cons, All-nil}
 use Rattle.std.proofs.lemmas.List.Concat.{flat_map-cons}
+use Rattle.std.proofs.lemmas.Bool.{cases_lt}
 use Rattle.tpm_core.specs.declared.algorithm.Algorithm.{Algorithm}
 use Rattle.tpm_core.specs.declared.algorithm.Algorithm.TheVariants.{Sha256}
 use Rattle.tpm_core.specs.declared.command.Selection.{Selection}
 use Rattle.tpm_core.specs.declared.selected.Register.{Register}
 use Rattle.std.specs.Prelude.{All}
-use Rattle.tpm_core.specs.Selected.{is_selected, selected, registers_of, all_registers, AreThere, chosen_of}
+use Rattle.tpm_core.specs.Selected.{is_selected, selected, registers_of, all_registers, AreThere, chosen_of, wanted_of}
 use Rattle.tpm_core.specs.Answers.{entry_read}
 
 range_more : (a n : ℕ) → range_with_len a (suc n) ≡ range_with_len a n ++ (a + n) ∷ []
@@ -115,3 +116,31 @@ there_more all a indices h k =
 
 pub below_more : (indices : List ℕ) (i : ℕ) → All (λ k. k < 24) indices → i < 24 → All (λ k. k < 24) (indices ++ i ∷ [])
 below_more indices i h lt = All-append (λ (k : ℕ). k < 24) indices (i ∷ []) h (All-cons (λ (k : ℕ). k < 24) i [] lt (All-nil (λ (k : ℕ). k < 24)))
+
+-- ---- the same without counting the room that is left
+
+-- the first of two lists, and of the second as many as are missing
+take_both : {A : Type 0} (n : ℕ) (xs ys : List A) → take n xs ++ take (n - length (take n xs)) ys ≡ take n (xs ++ ys)
+take_both n xs ys =
+    elim (cases_lt n (length xs)) [
+      | inl lt ↦
+          let full : n - length (take n xs) ≡ 0 = omega (arith, length-take n xs, lt) in
+          rw (full, take-append-le n xs ys (omega (arith, lt))) (append-nil (take n xs))
+      | inr le ↦
+          let both : length xs + (n - length xs) ≡ n = omega (arith, le) in
+          rw (take_all n xs le) (sym (take-append-add xs ys (n - length xs)) ∙ ap (λ (k : ℕ). take k (xs ++ ys)) both)
+    ]
+
+pub first_read : (room : ℕ) (selections : List Selection) → all_registers (chosen_of room selections) ≡ take room (wanted_of selections)
+unfolding chosen_of
+first_read room [] = sym (take-nil room)
+first_read room (selection ∷ others) =
+    let a = selection.algorithm in
+    let mine = take room (selected selection.bits) in
+    let register : ℕ → Register = λ index. record { algorithm = a; index = index } in
+    let front : registers_of a mine ≡ take room (registers_of a (selected selection.bits)) = sym (take-map register room (selected selection.bits)) in
+    let left : room - length mine ≡ room - length (take room (registers_of a (selected selection.bits))) = ap (λ (n : ℕ). room - n) (sym (length-registers_of a mine) ∙ ap length front) in
+    flat_map-cons (λ (c : Algorithm × List ℕ). registers_of c.0 c.1) (a, mine) (chosen_of (room - length mine) others)
+    ∙ ap (λ (rs : List Register). registers_of a mine ++ rs) (first_read (room - length mine) others)
+    ∙ rw (front, left) (take_both room (registers_of a (selected selection.bits)) (wanted_of others))
+    ∙ ap (take room) (sym (flat_map-cons (λ (s : Selection). registers_of s.algorithm (selected s.bits)) selection others))

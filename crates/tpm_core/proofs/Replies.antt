@@ -5,7 +5,7 @@ use Rattle.std.specs.Int.{w16, w32}
 use Rattle.std.proofs.lemmas.List.{length-take, length-append, get_or_past}
 use Rattle.std.proofs.lemmas.Nat.{from_be_bytes-to_be_bytes_4}
 use Rattle.tpm_frame.specs.declared.TheConstants.{NO_SESSIONS, SESSIONS}
-use Rattle.tpm_frame.specs.Frame.{number_at, short}
+use Rattle.tpm_frame.specs.Frame.{number_at, short, is_response_tag}
 use Rattle.tpm_core.specs.declared.parts.TpmParts.{TpmParts}
 use Rattle.tpm_core.specs.declared.refusal.Refusal.{Refusal}
 use Rattle.tpm_core.specs.declared.refusal.Refusal.TheVariants.{BadTag, CommandSize, CommandCode, Initialize, AuthMissing, AuthContext, HandleCut, HandleValue, AuthSize, SessionValue, BadAuth, ParameterCut, ParameterValue, ParameterSize, ParameterHash, Locality}
@@ -28,7 +28,7 @@ use Rattle.tpm_core.specs.Banks.{bank_of}
 use Rattle.tpm_core.specs.Selected.{selected, chosen_of, bits_of, registers_of, all_registers}
 use Rattle.tpm_core.proofs.Chosen.{length-registers_of}
 use Rattle.tpm_core.specs.Steps.{IsFit, IsInReach}
-use Rattle.tpm_core.specs.Responses.{IsResponse, is_response_tag, cancelled}
+use Rattle.tpm_core.specs.Responses.{IsResponse, cancelled}
 
 framed_size : (tag : ℕ) (body : List ℕ) → length body ≤ 3958 → number_at w32 2 (framed tag body) ≡ length (framed tag body)
 framed_size tag body lt =
@@ -39,10 +39,6 @@ framed_size tag body lt =
 
 framed_is_response : (tag : ℕ) (body : List ℕ) → IsTrue (is_response_tag (number_at w16 0 (framed tag body))) → length body ≤ 3958 → IsResponse (framed tag body)
 framed_is_response tag body is_tag lt = record { head = omega arith; room = omega arith; tag = is_tag; size = framed_size tag body lt }
-
--- the code of a framed response is 0
-framed_code : (tag : ℕ) (body : List ℕ) → number_at w32 6 (framed tag body) ≡ 0
-framed_code tag body = refl
 
 take_small : (n : ℕ) (bytes : List ℕ) → n ≤ 32 → length (take n bytes) + 2 ≤ 3958
 take_small n bytes le = omega (arith, length-take n bytes)

@@ -1,12 +1,8 @@
 -- What every response is.
-use Rattle.std.specs.Prelude.{◌≡◌, ℕ, ◌≤◌, Bool, ◌||◌, List, length, IsTrue, ◌==◌}
+use Rattle.std.specs.Prelude.{◌≡◌, ℕ, ◌≤◌, List, length, IsTrue}
 use Rattle.std.specs.Int.{w16, w32}
-use Rattle.tpm_frame.specs.declared.TheConstants.{NO_SESSIONS, SESSIONS, RSP_COMMAND, CANCELED}
-use Rattle.tpm_frame.specs.Frame.{number_at, short}
-
--- a tag of a response
-abbrev pub is_response_tag : ℕ → Bool
-is_response_tag tag = tag == NO_SESSIONS || tag == SESSIONS || tag == RSP_COMMAND
+use Rattle.tpm_frame.specs.declared.TheConstants.{CANCELED}
+use Rattle.tpm_frame.specs.Frame.{number_at, short, is_response_tag}
 
 -- bytes with the tag of a response and their length in the size field
 pub record IsResponse (bytes : List ℕ) : Type 0 where

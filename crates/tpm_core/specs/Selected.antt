@@ -26,6 +26,10 @@ registers_of a indices = map (λ index. record { algorithm = a; index = index })
 abbrev pub all_registers : List (Algorithm × List ℕ) → List Register
 all_registers chosen = flat_map (λ c. registers_of c.0 c.1) chosen
 
+-- all registers that the maps select, in order
+abbrev pub wanted_of : List Selection → List Register
+wanted_of selections = flat_map (λ selection. registers_of selection.algorithm (selected selection.bits)) selections
+
 -- each is a register that is there
 abbrev pub AreThere : List Register → Type 0
 AreThere registers = All (λ register. register.index < 24) registers

@@ -1,13 +1,15 @@
 //! Laws of pasts and of answers.
 
-ghost use Rattle.std.specs.Prelude.{◌≡◌, ◌≢◌, ◌↔◌, ℕ, List, [], ◌++◌, IsOk};
+ghost use Rattle.std.specs.Prelude.{◌≡◌, ◌≢◌, ◌↔◌, ℕ, List, [], ◌++◌, take, IsOk};
 ghost use Rattle.std.specs.Int.{w32};
 ghost use Rattle.tpm_frame.specs.Frame.{number_at};
 ghost use Rattle.tpm_frame.specs.Frames.{IsFrame};
+ghost use Rattle.tpm_core.specs.declared.command.Selection.{Selection};
 ghost use Rattle.tpm_core.specs.declared.parts.TpmParts.{TpmParts};
 ghost use Rattle.tpm_core.specs.Answers.{Entry, read_by, values_after, answer};
 ghost use Rattle.tpm_core.specs.Steps.{IsFit};
 ghost use Rattle.tpm_core.specs.Responses.{IsResponse, cancelled};
+ghost use Rattle.tpm_core.specs.Selected.{all_registers, chosen_of, wanted_of};
 
 use tpm_frame::laws::sized_bytes_are_frames;
 
@@ -36,3 +38,8 @@ pub fn answers_are_responses()
 {
     sized_bytes_are_frames();
 }
+
+/// A read reads the first eight of the registers that its maps select, in their order.
+pub fn first_eight_are_read()
+    ensures { (selections : List Selection) → all_registers (chosen_of 8 selections) ≡ take 8 (wanted_of selections) }
+{}

@@ -437,4 +437,5 @@ fn saved_states(rt: HostRuntime) -> Result<(), Fail> {
 fn laws_may_be_called() {
     laws::pasts_join();
     laws::answers_are_responses();
+    laws::first_eight_are_read();
 }
