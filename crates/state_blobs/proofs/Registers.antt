@@ -1,11 +1,11 @@
 -- Registers, one after the other.
-use Rattle.std.proofs.Common.{◌≡◌, ℕ, ◌+◌, ◌*◌, ◌/◌, ◌%◌, ◌<◌, suc, List, [], ◌∷◌, ◌++◌, length, take, drop, get_or, set, replicate, refl, sym, ap, ◌∙◌, arith, inl, inr}
+use Rattle.std.proofs.Common.{◌≡◌, ℕ, ◌+◌, ◌*◌, ◌/◌, ◌%◌, ◌<◌, suc, List, [], ◌∷◌, ◌++◌, length, take, drop, get_or, set, refl, sym, ap, ◌∙◌, arith, inl, inr}
 use Rattle.std.specs.List.{concat}
 use Rattle.state_blobs.specs.Running.{AreRegisters}
 use Rattle.std.proofs.lemmas.List.Folds.{concat-append}
 use Rattle.std.proofs.lemmas.Bool.{cases_eq}
 use Rattle.std.proofs.Math.Seq.{take-append-add, take-add}
-use Rattle.std.proofs.lemmas.List.{length-append, length-take, length-drop, take-append-drop, take_at, drop_at, get_or_append_left, get_or-append_right, get_or-take, take_all, drop_all, drop-drop, append-nil, take_more_set, length-set, length-replicate, get_or-set_same, get_or-set_other, get_or-replicate}
+use Rattle.std.proofs.lemmas.List.{length-append, length-take, length-drop, take-append-drop, take_at, drop_at, get_or_append_left, get_or-append_right, get_or-take, take_all, drop_all, drop-drop, append-nil, take_more_set, length-set, get_or-set_same, get_or-set_other}
 
 AreRegisters-tail : (value : List ℕ) (values : List (List ℕ)) → AreRegisters (value ∷ values) → AreRegisters values
 AreRegisters-tail value values h i lt = h (suc i) (omega (arith, lt))
@@ -96,6 +96,3 @@ AreRegisters-set values i value h size k lt =
       | inl e ↦ ap (λ (n : ℕ). length (get_or (set values i value) n [])) e ∙ ap length (get_or-set_same values i value [] (omega (arith, there, e))) ∙ size
       | inr ne ↦ ap length (get_or-set_other values i k value [] ne) ∙ h k there
     ]
-
-pub AreRegisters-replicate : (count : ℕ) (value : List ℕ) → length value ≡ 32 → AreRegisters (replicate count value)
-AreRegisters-replicate count value size i lt = ap length (get_or-replicate count i value [] (omega (arith, lt, length-replicate count value))) ∙ size

@@ -1,8 +1,8 @@
 -- Bytes are a blob, refused or cut.
-use Rattle.std.proofs.Common.{◌≡◌, ℕ, Bool, true, false, List, ◌++◌, length, take, Result, Ok, Err, ap, ◌∙◌, arith, inl, inr}
+use Rattle.std.proofs.Common.{◌≡◌, ℕ, Bool, true, false, List, length, take, Result, Ok, Err, arith, inl, inr}
 use Rattle.std.specs.Prelude.{OnOk, IfOk}
 use Rattle.std.specs.Bool.{OnTrue, OnFalse}
-use Rattle.std.proofs.lemmas.List.{take_all, append-nil, nil_from_length}
+use Rattle.std.proofs.lemmas.List.{take_all}
 use Rattle.vt_base.specs.Numbers.{IsBytes}
 use Rattle.vt_base.specs.Layout.{Spells, IsOpen}
 use Rattle.vt_base.specs.declared.words.Kind.{Kind}
@@ -43,7 +43,3 @@ blob_if_told kind bytes (Err fault) fits told = tt
 pub cut_if_not : (kind : Kind) (whole : Bool) (bytes : List ℕ) → OnFalse whole (IsOpen (blob kind) bytes) → OnFalse whole (IsCut kind bytes)
 cut_if_not kind true bytes none = tt
 cut_if_not kind false bytes none = open_is_cut kind bytes none
-
--- An empty piece adds nothing.
-pub nothing_more : (begun piece : List ℕ) → length piece ≡ 0 → begun ++ piece ≡ begun
-nothing_more begun piece none = ap (λ (p : List ℕ). begun ++ p) (nil_from_length piece none) ∙ append-nil begun
