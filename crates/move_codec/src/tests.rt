@@ -370,18 +370,26 @@ fn refusals(rt: HostRuntime) -> Result<(), Fail> {
 /// Where the memory of a piece is wanting, the reader stays as it was, and takes the same bytes again.
 #[test]
 fn a_piece_after_want_of_memory(rt: HostRuntime) -> Result<(), Fail> {
+    let piece = Body::Piece {
+        part: Part::Volatile,
+        offset: 0x0a0b_0c0d,
+        bytes: Bytes::from_slice(rt.alloc(), &[0xaa, 0xbb, 0xcc])?,
+    };
+    let m = message(HostName::B, 0x0102_0304_0506_0708, piece);
     let mut reader = Reader::new(rt.alloc())?;
     let (front, back) = PIECE.split_at(20);
     let (_, fed) = reader.feed(rt.alloc(), front)?;
     assert!(rt; matches!(fed, FedMessage::More));
-    let fed = match reader.feed(rt.alloc(), back) {
-        Ok((_, fed)) => fed,
+    let (used, fed) = match reader.feed(rt.alloc(), back) {
+        Ok(fed) => fed,
         Err(AllocError) => {
             assert_eq!(rt; reader.pending(), 20);
-            reader.feed(rt.alloc(), back)?.1
+            reader.feed(rt.alloc(), back)?
         }
     };
-    assert!(rt; matches!(fed, FedMessage::Whole(_)));
+    assert_eq!(rt; used, 9);
+    assert!(rt; matches!(&fed, FedMessage::Whole(read) if same(read, &m)));
+    assert_eq!(rt; reader.pending(), 0);
     Ok(())
 }
 
@@ -389,12 +397,13 @@ fn a_piece_after_want_of_memory(rt: HostRuntime) -> Result<(), Fail> {
 #[test]
 fn writing_after_want_of_memory(rt: HostRuntime) -> Result<(), Fail> {
     let m = message(HostName::A, 1, Body::Prepared);
-    let mut text = Vec::new(rt.alloc());
+    let mut text = Vec::from_slice(rt.alloc(), &[0xee])?;
     if write_message(&m, &mut text).is_err() {
-        assert_eq!(rt; text.len(), 0);
+        assert_eq!(rt; text.as_slice(), [0xee].as_slice());
         write_message(&m, &mut text)?;
     }
-    assert_eq!(rt; text.as_slice(), PREPARED.as_slice());
+    assert_eq!(rt; text.first(), Some(&0xee));
+    assert_eq!(rt; text.get(1..).unwrap_or(&[]), PREPARED.as_slice());
     Ok(())
 }
 
