@@ -9,18 +9,19 @@ use vt_base::{Bytes, Chan, Failed, FaultPlan, Held, Kind, MemSource, Source};
 const ROOM: usize = 64;
 
 // Wires that give prepared bytes, so many at once at most, and keep what is sent. They tell nothing of what is behind them,
-// and have no channel of commands.
+// keep what was received, and have no channel of commands.
 #[derive(Drop)]
 struct Script {
     source: MemSource,
     piece: usize,
     sent: Held<ROOM>,
+    came: Held<ROOM>,
     was_cut: bool,
     plan: FaultPlan,
 }
 
 impl Wires for Script {
-    ghost use Rattle.std.specs.Prelude.{None, false};
+    ghost use Rattle.std.specs.Prelude.{Some, None, false};
 
     ghost link = { λ _. None };
 
@@ -33,6 +34,8 @@ impl Wires for Script {
     ghost fails = { λ _. false };
 
     ghost later = { λ plan. plan };
+
+    ghost came = { λ s. Some s.came };
 
     fn send(&mut self, chan: Chan, bytes: &[u8]) -> Result<(), Failed> {
         self.plan.call()?;
@@ -49,9 +52,13 @@ impl Wires for Script {
         if matches!(chan, Chan::Data) {
             return Err(self.plan.fault());
         }
-        let most = into.len().min(self.piece);
+        let room = ROOM - self.came.as_slice().len();
+        let most = into.len().min(self.piece).min(room);
         match self.source.read(&mut into[..most]) {
-            Ok(count) if count > 0 || into.is_empty() => Ok(count),
+            Ok(count) if count > 0 || into.is_empty() => {
+                self.came.push(&into[..count]);
+                Ok(count)
+            }
             _ => Err(self.plan.fault()),
         }
     }
@@ -68,6 +75,7 @@ fn prepared(alloc: Global, reply: &[u8], piece: usize, failing: u64) -> Result<S
         source: MemSource::new(bytes, Vec::new(alloc)),
         piece,
         sent: Held::new(),
+        came: Held::new(),
         was_cut: false,
         plan: FaultPlan::new(vec![in alloc; failing]?),
     })

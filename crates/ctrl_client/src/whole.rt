@@ -3,6 +3,7 @@ ghost use Rattle.std.specs.Prelude.{◌≡◌, ◌≤◌, ◌<◌, length, true,
 ghost use Rattle.vt_base.specs.Faults.{HasCause};
 ghost use Rattle.ctrl_client.specs.Link.{at_hand};
 ghost use Rattle.ctrl_client.specs.Whole.{ReceivesWhole};
+ghost use Rattle.ctrl_client.specs.Came.{Came};
 
 use crate::wires::Wires;
 use vt_base::{Chan, Failed};
@@ -14,6 +15,9 @@ pub fn receive_whole<W: Wires>(wires: &mut W, chan: Chan, into: &mut [u8]) -> Re
     // Over wires that tell their link, where so many bytes are at hand, one receive gives them all.
     ensures told { IfSome (W.link wires.old) (λ l. length into.old ≤ length (at_hand chan l)
         → ReceivesWhole W.fails W.later chan l (W.plan wires.old) (length into.old) result into.new (W.link wires.new) (W.plan wires.new)) }
+
+    // Over any wires.
+    ensures came { OnOk result (Came into.new (W.came wires.old) (W.came wires.new)) }
     ensures cause { HasCause (W.faults wires.old) (W.faults wires.new) result }
 {
     let count = wires.receive(chan, into)?;
@@ -24,6 +28,7 @@ pub fn receive_whole<W: Wires>(wires: &mut W, chan: Chan, into: &mut [u8]) -> Re
 fn receive_rest<W: Wires>(wires: &mut W, chan: Chan, into: &mut [u8]) -> Result<(), Failed>
     ensures nothing { length into.old ≡ 0 → OnOk result (wires.new ≡ wires.old) }
     ensures sure { length into.old ≡ 0 → is_ok result ≡ true }
+    ensures came { OnOk result (Came into.new (W.came wires.old) (W.came wires.new)) }
     ensures cause { HasCause (W.faults wires.old) (W.faults wires.new) result }
 {
     let mut done = 0;
