@@ -4,13 +4,11 @@
 //! started and what the TPM executed are found by looking back over it; nothing is kept. `Legal` says which histories
 //! one device over one TPM may have, and `IsRun` which replies to the lines of a script tell such a history.
 //!
-//! Most functions here do nothing: their contracts are laws of the definitions. [`command_of`] alone has work to do.
+//! The functions here do nothing: their contracts are laws of the definitions.
 #![tactic(auto)]
 
-mod command;
 mod laws;
 
-pub use command::command_of;
 pub use laws::{
     done_is_executed_once, histories_continue, lost_stays_lost, numbers_count_starts,
     plain_runs_are_one,
