@@ -4,18 +4,20 @@ use Rattle.std.specs.Bool.{OnFalse}
 use Rattle.vt_base.specs.Faults.{Rose}
 use Rattle.vt_base.specs.declared.words.Chan.TheVariants.{Data}
 use Rattle.ctrl_client.specs.Link.{Link, Goes, SentBy, received, at_hand}
+use Rattle.ctrl_client.specs.Came.{Came}
 
 -- Wires: their link, where they tell it; the plan of their calls, whether the next is to fail by it, and the plan after
--- that one; and how many calls have failed.
+-- that one; how many calls have failed; and all bytes that were received, where they keep them.
 pub record Seen (Plan : Type 0) : Type 0 where
   pub link : Option Link
   pub plan : Plan
   pub fails : Bool
   pub later : Plan
   pub faults : ℕ
+  pub came : Option (List ℕ)
 
-abbrev pub wires_seen : {Plan : Type 0} → (Plan → Bool) → (Plan → Plan) → Option Link → Plan → ℕ → Seen Plan
-wires_seen fails later link plan faults = record { link = link; plan = plan; fails = fails plan; later = later plan; faults = faults }
+abbrev pub wires_seen : {Plan : Type 0} → (Plan → Bool) → (Plan → Plan) → Option Link → Plan → ℕ → Option (List ℕ) → Seen Plan
+wires_seen fails later link plan faults came = record { link = link; plan = plan; fails = fails plan; later = later plan; faults = faults; came = came }
 
 -- the count of faults never falls, and a call that failed raised it
 pub record Counts {Plan : Type 0} (ok : Bool) (w v : Seen Plan) : Type 0 where
@@ -28,6 +30,7 @@ pub record Sends {Plan : Type 0} (ok : Bool) (command : List ℕ) (w v : Seen Pl
   pub link : Goes (SentBy ok Data command) w.link v.link
   pub answers : IfSome w.link (λ _. ok ≡ not w.fails)
   pub plan : IfSome w.link (λ _. v.plan ≡ w.later)
+  pub came : v.came ≡ w.came
 
 -- one receive of so many bytes of a response, over a link that is told
 pub record ReceivesOnce {Plan : Type 0} (ok : Bool) (count : ℕ) (l : Link) (w v : Seen Plan) : Type 0 where
@@ -44,7 +47,8 @@ pub record Receives {Plan : Type 0} (ok : Bool) (count : ℕ) (w v : Seen Plan) 
   pub counts : Counts ok w v
   pub told : WithAtHand count w (λ l. ReceivesOnce ok count l w v)
 
--- these are the next bytes of a response
-pub record AreNext {Plan : Type 0} (bytes : List ℕ) (count : ℕ) (w : Seen Plan) : Type 0 where
+-- these are the next bytes of a response: they were received, and no others
+pub record AreNext {Plan : Type 0} (bytes : List ℕ) (count : ℕ) (w v : Seen Plan) : Type 0 where
   pub size : length bytes ≡ count
   pub told : WithAtHand count w (λ l. bytes ≡ take count (at_hand Data l))
+  pub came : Came bytes w.came v.came

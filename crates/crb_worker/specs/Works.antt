@@ -53,14 +53,14 @@ WithClaimed job k w _ next l v = ⊥
 
 -- ten bytes were received that are no header of a response
 abbrev pub ReceivesNoHead : {Plan : Type 0} → Seen Plan → Seen Plan → Type 0
-ReceivesNoHead w v = (head : List ℕ) × (is_head head ≡ false) × AreNext head HEADER_SIZE w × Receives true HEADER_SIZE w v
+ReceivesNoHead w v = (head : List ℕ) × (is_head head ≡ false) × AreNext head HEADER_SIZE w v × Receives true HEADER_SIZE w v
 
 -- Of a command that was sent the header of the response is received. The job is lost where that fails, and where the
 -- bytes are no such header.
 abbrev pub WithSent : {Plan : Type 0} → Job → Known → Seen Plan → Step → Progress → Known → Seen Plan → Type 0
 WithSent job k w (Exec number) next l v = (head : List ℕ)
     × (number ≡ job.number) × (next ≡ progress.Run job head) × (is_head head ≡ true) × (l ≡ k)
-    × AreNext head HEADER_SIZE w × Receives true HEADER_SIZE w v
+    × AreNext head HEADER_SIZE w v × Receives true HEADER_SIZE w v
 WithSent job k w (Lost number) next l v =
     GivesUp k job number next l × (Receives false HEADER_SIZE w v ⊎ ReceivesNoHead w v)
 WithSent job k w _ next l v = ⊥
@@ -68,7 +68,7 @@ WithSent job k w _ next l v = ⊥
 -- as many bytes as are left of a response are received, by whether any are
 abbrev pub ReceivesRest : {Plan : Type 0} → Bool → ℕ → List ℕ → Seen Plan → Seen Plan → Type 0
 ReceivesRest false count rest w v = (rest ≡ []) × (v ≡ w)
-ReceivesRest true count rest w v = AreNext rest count w × Receives true count w v
+ReceivesRest true count rest w v = AreNext rest count w v × Receives true count w v
 
 abbrev pub is_longer : List ℕ → Bool
 is_longer head = nat_lt HEADER_SIZE (named_size head)

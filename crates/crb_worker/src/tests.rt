@@ -27,17 +27,19 @@ const RANDOM: [u8; 20] = [
     0x80, 1, 0, 0, 0, 20, 0, 0, 0, 0, 0, 8, 0x44, 0xB4, 0xC8, 0xF8, 0xAE, 0xB4, 0x91, 0xCE,
 ];
 
-// Wires that give prepared bytes, so many at once at most, and keep what is sent. They tell nothing of what is behind them.
+// Wires that give prepared bytes, so many at once at most, and keep what is sent and what is received.
+// They tell nothing of what is behind them.
 #[derive(Drop)]
 struct Script {
     source: MemSource,
     piece: usize,
     sent: Held<LARGEST_FRAME>,
+    came: Held<LARGEST_FRAME>,
     plan: FaultPlan,
 }
 
 impl Wires for Script {
-    ghost use Rattle.std.specs.Prelude.{None, false};
+    ghost use Rattle.std.specs.Prelude.{Some, None, false};
 
     ghost link = { λ _. None };
 
@@ -51,6 +53,8 @@ impl Wires for Script {
 
     ghost later = { λ plan. plan };
 
+    ghost came = { λ s. Some s.came };
+
     fn send(&mut self, _: Chan, bytes: &[u8]) -> Result<(), Failed> {
         self.plan.call()?;
         let room = LARGEST_FRAME - self.sent.as_slice().len();
@@ -63,9 +67,13 @@ impl Wires for Script {
 
     fn receive(&mut self, _: Chan, into: &mut [u8]) -> Result<usize, Failed> {
         self.plan.call()?;
-        let most = into.len().min(self.piece);
+        let room = LARGEST_FRAME - self.came.as_slice().len();
+        let most = into.len().min(self.piece).min(room);
         match self.source.read(&mut into[..most]) {
-            Ok(count) if count > 0 || into.is_empty() => Ok(count),
+            Ok(count) if count > 0 || into.is_empty() => {
+                self.came.push(&into[..count]);
+                Ok(count)
+            }
             _ => Err(self.plan.fault()),
         }
     }
@@ -85,6 +93,7 @@ fn prepared(
         source: MemSource::new(bytes, Vec::new(alloc)),
         piece,
         sent: Held::new(),
+        came: Held::new(),
         plan: FaultPlan::new(vec![in alloc; failing]?),
     })
 }
