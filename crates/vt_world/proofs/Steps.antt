@@ -173,7 +173,7 @@ record Uncalled (l m : Link) (due due' : Option ℕ) : Type 0 where
   link : m ≡ l
   due_is : due' ≡ due
 
-uncalled : (l m : Link) (due due' : Option ℕ) (faults faults' : ℕ) → wires_seen is_due passed (Some m) due' faults' ≡ wires_seen is_due passed (Some l) due faults → Uncalled l m due due'
+uncalled : (l m : Link) (due due' : Option ℕ) (faults faults' : ℕ) → wires_seen is_due passed (Some m) due' faults' None ≡ wires_seen is_due passed (Some l) due faults None → Uncalled l m due due'
 uncalled l m due due' faults faults' same = record {
   link = the_same m l (ap (λ (s : Seen (Option ℕ)). s.link) same);
   due_is = ap (λ (s : Seen (Option ℕ)). s.plan) same;
@@ -390,11 +390,11 @@ given-length b p fit in_time = ap (λ c. length (given c (tpm_at b p) (last_comm
 
 ended-rest : (b : Base) (t : Transcript) (d : DeviceParts Standing) (job : Job) (head rest response : List ℕ) (l m : Link) (due due' : Option ℕ) (faults faults' : ℕ)
     → Follows b t (record { device = d; progress = RunJob job head; link = l; due = due }) → response ≡ head ++ rest
-    → ReceivesRest (is_longer head) (left_of head) rest (wires_seen is_due passed (Some l) due faults) (wires_seen is_due passed (Some m) due' faults')
+    → ReceivesRest (is_longer head) (left_of head) rest (wires_seen is_due passed (Some l) due faults None) (wires_seen is_due passed (Some m) due' faults' None)
     → Ended b t l m head response due due'
 ended-rest b t d job head rest response l m due due' faults faults' follows is took = go (is_longer head) refl took
   where
-    go : (longer : Bool) → is_longer head ≡ longer → ReceivesRest longer (left_of head) rest (wires_seen is_due passed (Some l) due faults) (wires_seen is_due passed (Some m) due' faults') → Ended b t l m head response due due'
+    go : (longer : Bool) → is_longer head ≡ longer → ReceivesRest longer (left_of head) rest (wires_seen is_due passed (Some l) due faults None) (wires_seen is_due passed (Some m) due' faults' None) → Ended b t l m head response due due'
     go false short took =
         let p : History = history b t in
         let facts : RestFacts b p head l = rest_facts b p (plain_device d) l job head follows.fit follows.stands in
@@ -418,7 +418,7 @@ ended-rest b t d job head rest response l m due due' faults faults' follows is t
         let facts : RestFacts b p head l = rest_facts b p (plain_device d) l job head follows.fit follows.stands in
         let whole : length (at_hand Data l) ≡ left_of head = ap length facts.there ∙ facts.left in
         let enough : left_of head ≤ length (at_hand Data l) = omega (arith, whole) in
-        let once : ReceivesOnce true (left_of head) l (wires_seen is_due passed (Some l) due faults) (wires_seen is_due passed (Some m) due' faults') = took.1.told enough in
+        let once : ReceivesOnce true (left_of head) l (wires_seen is_due passed (Some l) due faults None) (wires_seen is_due passed (Some m) due' faults' None) = took.1.told enough in
         let link : m ≡ received true Data (left_of head) l = the_same m _ once.link in
         let here : rest ≡ drop 10 (given_at b p) = took.0.told enough ∙ take_all (left_of head) (at_hand Data l) (omega (arith, whole)) ∙ facts.there in
         let behind = rest_behind (asked_in_time b p) (tpm_at b p) (last_command b p) (left_of head) l facts.behind follows.stands.quiet (omega (arith, facts.left)) in
@@ -516,7 +516,7 @@ unended-steps b t d e number job head next l m due due' follows own up long gone
 -- the worker's step leads a world on
 pub work-steps : (b : Base) (t : Transcript) (d e : DeviceParts Standing) (progress next : Progress) (l m : Link) (due due' : Option ℕ) (faults faults' : ℕ) (step : Step)
     → Follows b t (record { device = d; progress = progress; link = l; due = due }) → InStep d progress → own_parts e ≡ own_parts d
-    → Works progress (plain d.port) (wires_seen is_due passed (Some l) due faults) step next (plain e.port) (wires_seen is_due passed (Some m) due' faults')
+    → Works progress (plain d.port) (wires_seen is_due passed (Some l) due faults None) step next (plain e.port) (wires_seen is_due passed (Some m) due' faults' None)
     → Steps b t Work (said step) (record { device = e; progress = next; link = m; due = due' })
 work-steps b t d e Free next l m due due' faults faults' Idle follows in_step own works =
     idle-steps b t d e next l m due due' follows own works.0.0 works.0.1 (uncalled l m due due' faults faults' works.1)
@@ -539,11 +539,11 @@ work-steps b t d e (ClaimedJob job) next l m due due' faults faults' (Exec numbe
 work-steps b t d e (ClaimedJob job) next l m due due' faults faults' (Done number) follows in_step own works = absurd works
 work-steps b t d e (SentJob job) next l m due due' faults faults' (Exec number) follows in_step own (head, named, now, is, same, next_are, receives) =
     let enough : 10 ≤ length (at_hand Data l) = head_at_hand b t d job l due follows in
-    let once : ReceivesOnce true 10 l (wires_seen is_due passed (Some l) due faults) (wires_seen is_due passed (Some m) due' faults') = receives.told enough in
+    let once : ReceivesOnce true 10 l (wires_seen is_due passed (Some l) due faults None) (wires_seen is_due passed (Some m) due' faults' None) = receives.told enough in
     exec-steps b t d e number job head next l m due due' follows own named now same (next_are.told enough) (the_same m _ once.link) (not_true (is_due due) once.answers) once.plan
 work-steps b t d e (SentJob job) next l m due due' faults faults' (Lost number) follows in_step own (up, inl receives) =
     let enough : 10 ≤ length (at_hand Data l) = head_at_hand b t d job l due follows in
-    let once : ReceivesOnce false 10 l (wires_seen is_due passed (Some l) due faults) (wires_seen is_due passed (Some m) due' faults') = receives.told enough in
+    let once : ReceivesOnce false 10 l (wires_seen is_due passed (Some l) due faults None) (wires_seen is_due passed (Some m) due' faults' None) = receives.told enough in
     unrun-steps b t d e number job next l m due due' follows own up (the_same m _ once.link) (not_false (is_due due) once.answers) once.plan
 work-steps b t d e (SentJob job) next l m due due' faults faults' (Lost number) follows in_step own (up, inr (head, none, next_are, receives)) =
     absurd (no_head b t d job l due head follows (next_are.told (head_at_hand b t d job l due follows)) none)
@@ -559,7 +559,7 @@ work-steps b t d e (RunJob job head) next l m due due' faults faults' (Cancelled
 work-steps b t d e (RunJob job head) next l m due due' faults faults' (Lost number) follows in_step own (up, long, receives) =
     let facts : RestFacts b (history b t) head l = rest_facts b (history b t) (plain_device d) l job head follows.fit follows.stands in
     let whole : length (at_hand Data l) ≡ left_of head = ap length facts.there ∙ facts.left in
-    let once : ReceivesOnce false (left_of head) l (wires_seen is_due passed (Some l) due faults) (wires_seen is_due passed (Some m) due' faults') = receives.told (omega (arith, whole)) in
+    let once : ReceivesOnce false (left_of head) l (wires_seen is_due passed (Some l) due faults None) (wires_seen is_due passed (Some m) due' faults' None) = receives.told (omega (arith, whole)) in
     unended-steps b t d e number job head next l m due due' follows own up long (the_same m _ once.link) (not_false (is_due due) once.answers) once.plan
 work-steps b t d e (RunJob job head) next l m due due' faults faults' Idle follows in_step own works = absurd works
 work-steps b t d e (RunJob job head) next l m due due' faults faults' (Claim number) follows in_step own works = absurd works

@@ -189,7 +189,7 @@ impl MemWires {
 }
 
 impl Wires for MemWires {
-    ghost use Rattle.std.specs.Prelude.{Some, ℕ, Option};
+    ghost use Rattle.std.specs.Prelude.{Some, None, ℕ, Option};
     ghost use Rattle.vt_world.specs.Wires.{is_due, passed};
 
     ghost link = { λ w. Some w.link };
@@ -203,6 +203,9 @@ impl Wires for MemWires {
     ghost fails = { is_due };
 
     ghost later = { passed };
+
+    // What comes is told by the link.
+    ghost came = { λ _. None };
 
     fn send(&mut self, chan: Chan, bytes: &[u8]) -> Result<(), Failed> {
         if self.count() {
