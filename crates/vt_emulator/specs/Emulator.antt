@@ -6,7 +6,7 @@ use Rattle.tpm_core.specs.Steps.{IsFit}
 use Rattle.ctrl_codec.specs.Requests.{Asks, Refuses}
 use Rattle.ctrl_codec.specs.Replies.{reply_spelling}
 use Rattle.ctrl_codec.specs.declared.request.Request.TheVariants.{Shutdown}
-use Rattle.ctrl_client.specs.declared.profile.TheConstants.{GREATEST_BUFFER, LARGEST_PIECE}
+use Rattle.ctrl_client.specs.declared.profile.TheConstants.{LEAST_BUFFER, GREATEST_BUFFER, LARGEST_PIECE}
 use Rattle.ctrl_client.specs.Desk.{Desk, Held, Turn, no_gathers, holding, response_to, ran}
 use Rattle.ctrl_client.specs.Link.{Heard, heard_in, Hears, command_in}
 use Rattle.ctrl_client.specs.Link.Heard.{Asked, Refused}
@@ -31,6 +31,8 @@ pub record IsSound (d : Desk) : Type 0 where
   pub powered : d.on ≡ true → IsSome d.tpm
   pub piece_least : 1 ≤ d.piece
   pub piece_most : d.piece ≤ LARGEST_PIECE
+  pub buffer_least : LEAST_BUFFER ≤ d.buffer
+  pub buffer_most : d.buffer ≤ GREATEST_BUFFER
 
 -- where the state is told, it is told after a call too, and the call took this step
 abbrev pub Goes : (EmulatorState → EmulatorState → Type 0) → Option EmulatorState → Option EmulatorState → Type 0
