@@ -5,3 +5,4 @@ pub mod Room
 pub mod Told
 pub mod Trims
 pub mod Values
+pub mod Marked

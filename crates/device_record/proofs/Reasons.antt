@@ -3,6 +3,7 @@ use Rattle.std.proofs.Common.{◌≡◌, ℕ, ◌+◌, Bool, true, false, cond, 
 use Rattle.std.specs.Prelude.{nat_lt, slice_index}
 use Rattle.std.specs.Int.{w16, w32, w64, from_be_bytes}
 use Rattle.vt_base.specs.Layout.{Layout, Ends, Field, Spells, long_then}
+use Rattle.vt_base.specs.Marks.{marks_then}
 use Rattle.vt_base.specs.Refusing.{refuse, mark_then}
 use Rattle.vt_base.specs.declared.words.Why.{Why}
 use Rattle.vt_base.specs.declared.words.Why.TheVariants.{Magic, Version, Length, Value, Cut, Extra}
@@ -11,7 +12,7 @@ use Rattle.crb_regs.specs.Registers.{is_idle, is_executing}
 use Rattle.crb_regs.specs.declared.registers.Regs.{Regs}
 use Rattle.device_record.specs.declared.fields.Fields.{Fields}
 use Rattle.device_record.specs.Records.{magic, flag_at, phase_at}
-use Rattle.device_record.specs.Layouts.{Ending, value_then, marks_then, ends_in_zero, content_then, count_then, job_then, registers_then, length_then, record_layout, AreCut, GoOn, IsRefused}
+use Rattle.device_record.specs.Layouts.{Ending, value_then, ends_in_zero, content_then, count_then, job_then, registers_then, length_then, record_layout, AreCut, GoOn, IsRefused}
 use Rattle.device_record.proofs.Told.{idle_next, mark_next, phase_next, cancel_next, granted_next}
 
 -- a reason that only a field has

@@ -7,12 +7,13 @@ use Rattle.std.proofs.lemmas.Bool.Decides.{nat_tests}
 use Rattle.std.proofs.lemmas.List.{length-drop, take_all, drop_all}
 use Rattle.vt_base.specs.Numbers.{IsBytes, short, number, long}
 use Rattle.vt_base.specs.Layout.{Layout, Ends, Spells, byte_then, short_then, long_then}
+use Rattle.vt_base.specs.Marks.{marks_then}
 use Rattle.vt_base.specs.Refusing.{malformed, refuse, mark_then}
 use Rattle.std.proofs.lemmas.Nat.{from_be_bytes-to_be_bytes_2, from_be_bytes-to_be_bytes_8}
 use Rattle.std.specs.Int.{w16, w64, from_be_bytes}
 use Rattle.vt_base.proofs.Numbers.{spells_number, spells_field}
+use Rattle.vt_base.proofs.Marks.{mark_spells, marks_spell}
 use Rattle.vt_base.proofs.Fronts.{byte_front, number_front, long_front, short_front, not_refused, mark_front, found}
-use Rattle.vt_base.specs.declared.words.Why.{Why}
 use Rattle.vt_base.specs.declared.words.Why.TheVariants.{Magic, Version, Length, Value}
 use Rattle.crb_regs.specs.Registers.{is_idle, is_executing, is_lost}
 use Rattle.crb_regs.specs.declared.phase.Phase.{Phase}
@@ -20,7 +21,7 @@ use Rattle.crb_regs.specs.declared.phase.Phase.TheVariants.{Idle, Ready, Recepti
 use Rattle.crb_regs.specs.declared.registers.Regs.{Regs}
 use Rattle.device_record.specs.declared.fields.Fields.{Fields}
 use Rattle.device_record.specs.Records.{magic, flag_byte, flag_at, phase_code, phase_at, phases, header_text}
-use Rattle.device_record.specs.Layouts.{Ending, value_then, flag_then, marks_then, ends_in_zero, content_then, count_then, job_then, registers_then, length_then, record_layout}
+use Rattle.device_record.specs.Layouts.{Ending, value_then, flag_then, ends_in_zero, content_then, count_then, job_then, registers_then, length_then, record_layout}
 
 -- fields and the content behind them that make a record
 pub record AreWhole (f : Fields) (content : List ℕ) : Type 0 where
@@ -372,17 +373,9 @@ length_spelled f content is =
     spells_number size_next (Ok f) (14 + f.count) (behind_length f content) (omega (arith, is.count))
     (otherwise (nat_lt (14 + f.count) 14 || nat_lt 3982 (14 + f.count)) (refuse Length 5) (registers_then (14 + f.count)) (Ok f) (behind_length f content) (in_range f.count is.count) (registers_spelled f content is))
 
-mark_spelled : (mark : ℕ) (why : Why) (place : ℕ) (next : Layout Ending) (end : Ending) (rest : List ℕ) → Spells next end rest → Spells (mark_then mark why place next) end (mark ∷ rest)
-mark_spelled mark why place next end rest spelled = (omega arith, subst (λ (b : Bool). Spells (cond b next (refuse why place)) end rest) (sym (eq-eqb mark mark refl)) spelled)
-
-marks_spelled : (marks : List ℕ) (place : ℕ) (next : Layout Ending) (end : Ending) (rest : List ℕ) → Spells next end rest → Spells (marks_then marks place next) end (marks ++ rest)
-marks_spelled [] place next end rest spelled = spelled
-marks_spelled (mark ∷ marks) place next end rest spelled =
-    mark_spelled mark Magic place (marks_then marks (place + 1) next) end (marks ++ rest) (marks_spelled marks (place + 1) next end rest spelled)
-
 -- A whole record is told as one.
 pub record_spelled : (f : Fields) (content : List ℕ) → AreWhole f content → Spells record_layout (Ok f) (header_text f ++ content)
 unfolding record_layout
 record_spelled f content is =
     let behind = number (14 + f.count) ++ behind_length f content in
-    marks_spelled magic 0 (mark_then 1 Version 4 length_then) (Ok f) (1 ∷ behind) (mark_spelled 1 Version 4 length_then (Ok f) behind (length_spelled f content is))
+    marks_spell magic 0 (mark_then 1 Version 4 length_then) (Ok f) (1 ∷ behind) (mark_spells 1 Version 4 length_then (Ok f) behind (length_spelled f content is))

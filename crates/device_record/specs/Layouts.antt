@@ -1,8 +1,9 @@
 -- Records told from the left, field by field: the places and the order of what is refused. (Own definitions.)
-use Rattle.std.specs.Prelude.{◌≡◌, ℕ, ◌+◌, ◌-◌, ◌<◌, ◌==◌, ◌&&◌, ◌||◌, not, nat_lt, if◌then◌else◌, Bool, List, [], ◌∷◌, length, take, slice_index, ◌⊎◌, Option, Some, None, Result, Ok, Err}
+use Rattle.std.specs.Prelude.{◌≡◌, ℕ, ◌+◌, ◌-◌, ◌<◌, ◌==◌, ◌&&◌, ◌||◌, not, nat_lt, if◌then◌else◌, Bool, List, length, take, slice_index, ◌⊎◌, Option, Some, None, Result, Ok, Err}
 use Rattle.vt_base.specs.Layout.{Layout, Ends, Field, Spells, IsOpen, byte_then, short_then, number_then, long_then}
+use Rattle.vt_base.specs.Marks.{marks_then}
 use Rattle.vt_base.specs.Refusing.{malformed, refuse, mark_then}
-use Rattle.vt_base.specs.declared.words.Why.TheVariants.{Magic, Version, Length, Value, Cut, Extra}
+use Rattle.vt_base.specs.declared.words.Why.TheVariants.{Version, Length, Value, Cut, Extra}
 use Rattle.vt_base.specs.declared.words.Malformed.{Malformed}
 use Rattle.crb_regs.specs.Registers.{is_idle, is_executing}
 use Rattle.crb_regs.specs.declared.registers.Regs.{Regs}
@@ -22,11 +23,6 @@ value_then (Some value) place next = next value
 -- a flag
 abbrev pub flag_then : ℕ → (Bool → Layout Ending) → Layout Ending
 flag_then place next = byte_then (λ byte. value_then (flag_at byte) place next)
-
--- the bytes of a magic, the first of them at this place
-abbrev pub marks_then : List ℕ → ℕ → Layout Ending → Layout Ending
-marks_then [] place next = next
-marks_then (mark ∷ marks) place next = mark_then mark Magic place (marks_then marks (place + 1) next)
 
 -- whether there is a last byte, and it is 0
 abbrev pub ends_in_zero : List ℕ → Bool
@@ -59,9 +55,13 @@ registers_then size =
 abbrev pub length_then : Layout Ending
 length_then = number_then (λ size. if nat_lt size 14 || nat_lt 3982 size then refuse Length 5 else registers_then size)
 
+-- the version
+abbrev pub version_then : Layout Ending
+version_then = mark_then 1 Version 4 length_then
+
 -- a record
 unfoldable pub record_layout : Layout Ending
-record_layout = marks_then magic 0 (mark_then 1 Version 4 length_then)
+record_layout = marks_then magic 0 version_then
 
 -- A field of the bytes is refused, whatever stands behind it.
 abbrev pub HasRefusedField : Malformed → List ℕ → Type 0

@@ -2,7 +2,7 @@
 
 ghost use Rattle.std.specs.Prelude.{◌≡◌};
 ghost use Rattle.vt_base.specs.Verdict.{judged};
-ghost use Rattle.device_record.specs.Layouts.{ends_in_zero, content_then, count_then, job_then, registers_then, length_then, record_layout};
+ghost use Rattle.device_record.specs.Layouts.{ends_in_zero, content_then, count_then, job_then, registers_then, length_then, version_then, record_layout};
 
 use crate::fields::{Fields, flag_at, phase_at};
 use crate::format::{
@@ -10,7 +10,9 @@ use crate::format::{
     LARGEST_LENGTH, LENGTH_PLACE, MAGIC, PHASE_PLACE, VERSION, VERSION_PLACE,
 };
 use crb_regs::{Phase, Regs};
-use vt_base::{Judged, Why, byte_of, field_of, long_of, number_of, refused, short_of};
+use vt_base::{
+    Judged, Why, behind_magic, byte_of, field_of, long_of, number_of, refused, short_of,
+};
 
 fn ends_in_zero(bytes: &[u8]) -> bool
     ensures { result ≡ ends_in_zero bytes.now }
@@ -94,31 +96,23 @@ fn length_of(rest: &[u8]) -> Judged<Fields>
     registers_of(size, rest)
 }
 
-/// What the bytes come to as a record: its fields, a refusal, or a field that isn't whole.
-#[tactic(auto, unfolding(crate::specs::Layouts::record_layout))]
-pub fn judge(bytes: &[u8]) -> Judged<Fields>
-    ensures { result ≡ judged record_layout bytes.now }
+fn version_of(rest: &[u8]) -> Judged<Fields>
+    ensures { result ≡ judged version_then rest.now }
 {
-    let [c, r, b, d] = MAGIC;
-    let (first, rest) = byte_of(bytes)?;
-    if first != c {
-        return refused(Why::Magic, 0);
-    }
-    let (second, rest) = byte_of(rest)?;
-    if second != r {
-        return refused(Why::Magic, 1);
-    }
-    let (third, rest) = byte_of(rest)?;
-    if third != b {
-        return refused(Why::Magic, 2);
-    }
-    let (fourth, rest) = byte_of(rest)?;
-    if fourth != d {
-        return refused(Why::Magic, 3);
-    }
     let (version, rest) = byte_of(rest)?;
     if version != VERSION {
         return refused(Why::Version, VERSION_PLACE);
     }
     length_of(rest)
+}
+
+/// What the bytes come to as a record: its fields, a refusal, or a field that isn't whole.
+#[tactic(auto, using(crate::proofs::Marked::judged_record))]
+pub fn judge(bytes: &[u8]) -> Judged<Fields>
+    ensures { result ≡ judged record_layout bytes.now }
+{
+    match behind_magic(bytes, MAGIC)? {
+        Ok(rest) => version_of(rest),
+        Err(fault) => Ok(Err(fault)),
+    }
 }

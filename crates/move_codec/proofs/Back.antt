@@ -25,7 +25,8 @@ use Rattle.move_codec.specs.Messages.{Ending, outline, whole, name_then, offer, 
 use Rattle.move_codec.specs.Spelling.{Moves, HasPiece, IsInRange, magic, before_kind, before_receiver, before_body, kind_of, fields_of, numbers}
 use Rattle.move_codec.specs.Refusals.{Refuses, IsOutside, IsLength, Fits, BeginsWithPart, wrong_magic, wrong_version, no_length, no_kind, unfit_length, no_receiver, no_part, no_reason, no_count, unfit_count}
 use Rattle.move_codec.proofs.Named.{differs, nameless, host_back, part_back, reason_back, kind_back, hosts_row, parts_row, reasons_row, kinds_row}
-use Rattle.move_codec.proofs.Steps.{spells_short, spells_long, spells_mark, spells_magic, spells_other, spells_other_magic, spells_name, spells_nameless}
+use Rattle.vt_base.proofs.Marks.{mark_spells, marks_spell}
+use Rattle.move_codec.proofs.Steps.{spells_short, spells_long, spells_other, spells_other_magic, spells_name, spells_nameless}
 use Rattle.move_codec.proofs.Writes.{length-numbers, fields_room}
 
 abbrev failed : Malformed → Ending
@@ -36,8 +37,8 @@ failed fault = Err fault
 to_length : (len : ℕ) (end : Ending) (rest : List ℕ) → len < 2 ^ 32 → Spells (after_length len) end rest → Spells messages end (before_kind len ++ rest)
 unfolding messages
 to_length len end rest lt spelled =
-    spells_magic magic 0 after_magic end (1 ∷ (number len ++ rest))
-    (spells_mark 1 Version 4 (number_then after_length) end (number len ++ rest) (spells_number after_length end len rest lt spelled))
+    marks_spell magic 0 after_magic end (1 ∷ (number len ++ rest))
+    (mark_spells 1 Version 4 (number_then after_length) end (number len ++ rest) (spells_number after_length end len rest lt spelled))
 
 within : (len : ℕ) → IsLength len → (nat_lt len 10 || nat_lt 4113 len) ≡ false
 within len some = rw (le-ltb len 10 some.0, le-ltb 4113 len some.1) refl
@@ -153,7 +154,7 @@ magic_back place byte lt ne = spells_other_magic magic 0 after_magic place place
 
 version_back : (byte : ℕ) → byte ≢ 1 → Spells messages (failed (malformed Version 4)) (magic ++ byte ∷ [])
 unfolding messages
-version_back byte ne = spells_magic magic 0 after_magic (failed (malformed Version 4)) (byte ∷ []) (spells_other 1 Version 4 (number_then after_length) byte ne)
+version_back byte ne = marks_spell magic 0 after_magic (failed (malformed Version 4)) (byte ∷ []) (spells_other 1 Version 4 (number_then after_length) byte ne)
 
 or_right : (a b : Bool) → b ≡ true → (a || b) ≡ true
 or_right true b e = refl

@@ -6,3 +6,4 @@ pub mod Sent
 pub mod Steps
 pub mod Told
 pub mod Writes
+pub mod Marked

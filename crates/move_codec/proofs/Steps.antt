@@ -1,5 +1,5 @@
 -- Steps through the fields of a format whose bytes may be refused: what one field leaves to be shown, and back.
-use Rattle.std.proofs.Common.{◌≡◌, ◌≢◌, ℕ, zero, suc, ◌+◌, ◌^◌, ◌<◌, cond, eqb, List, [], ◌∷◌, ◌++◌, length, take, Option, Some, None, Result, Err, refl, sym, subst, arith, inl, inr, eq-eqb}
+use Rattle.std.proofs.Common.{◌≡◌, ◌≢◌, ℕ, zero, suc, ◌+◌, ◌^◌, ◌<◌, cond, eqb, List, [], ◌∷◌, ◌++◌, length, take, Option, Some, None, Result, Err, refl, sym, subst, arith, inl, inr}
 use Rattle.std.specs.Prelude.{slice_index}
 use Rattle.std.specs.Int.{w16, w64, from_be_bytes}
 use Rattle.std.proofs.lemmas.Bool.{eqb-true, eqb-false}
@@ -13,7 +13,9 @@ use Rattle.vt_base.specs.Refusing.{malformed, refuse, mark_then}
 use Rattle.vt_base.proofs.Fronts.{Front, chosen}
 use Rattle.vt_base.proofs.Numbers.{spells_field}
 use Rattle.move_codec.specs.Names.{named}
-use Rattle.move_codec.specs.Messages.{magic_then, name_next, name_then}
+use Rattle.vt_base.specs.Marks.{marks_then}
+use Rattle.vt_base.proofs.Marks.{mark_spells}
+use Rattle.move_codec.specs.Messages.{name_next, name_then}
 use Rattle.move_codec.proofs.Named.{name_is, differs}
 
 -- ---- from a layout to what its bytes are
@@ -33,12 +35,12 @@ mark_case P byte why place next end (b ∷ rest) fits spelled other same =
     ]
 
 -- the first byte that isn't the magic's, or what follows it
-pub magic_case : {V : Type 0} (P : List ℕ → Type 0) (magic : List ℕ) (start : ℕ) (next : Layout (Result V Malformed)) (end : Result V Malformed) (bytes : List ℕ) → IsBytes bytes → Spells (magic_then magic start next) end bytes
+pub magic_case : {V : Type 0} (P : List ℕ → Type 0) (magic : List ℕ) (start : ℕ) (next : Layout (Result V Malformed)) (end : Result V Malformed) (bytes : List ℕ) → IsBytes bytes → Spells (marks_then magic start next) end bytes
     → ((n place b : ℕ) → n < length magic → place ≡ start + n → b ≢ slice_index magic n → Err (malformed Magic place) ≡ end → P (take n magic ++ b ∷ []))
     → ((rest : List ℕ) → IsBytes rest → Spells next end rest → P (magic ++ rest)) → P bytes
 magic_case P [] start next end bytes fits spelled other same = same bytes fits spelled
 magic_case P (m ∷ ms) start next end bytes fits spelled other same =
-    mark_case P m Magic start (magic_then ms (start + 1) next) end bytes fits spelled (λ b ne is. other 0 start b (omega arith) (omega arith) ne is) (λ rest f s.
+    mark_case P m Magic start (marks_then ms (start + 1) next) end bytes fits spelled (λ b ne is. other 0 start b (omega arith) (omega arith) ne is) (λ rest f s.
     magic_case (λ t. P (m ∷ t)) ms (start + 1) next end rest f s (λ n place b lt at ne is. other (suc n) place b (omega (arith, lt)) (omega (arith, at)) ne is) same)
 
 name_found : {X V : Type 0} (P : List ℕ → Type 0) (byte : X → ℕ) (names : List X) (place : ℕ) (next : X → Layout (Result V Malformed)) (end : Result V Malformed) (b : ℕ) (rest : List ℕ) (name : Option X)
@@ -65,23 +67,16 @@ spells_short next end n rest lt spelled = spells_field (λ field. next (from_be_
 pub spells_long : {E : Type 0} (next : ℕ → Layout E) (end : E) (n : ℕ) (rest : List ℕ) → n < 2 ^ 64 → Spells (next n) end rest → Spells (long_then next) end (long n ++ rest)
 spells_long next end n rest lt spelled = spells_field (λ field. next (from_be_bytes w64 field)) end 8 (long n) rest refl (subst (λ (k : ℕ). Spells (next k) end rest) (sym (from_be_bytes-to_be_bytes_8 n lt)) spelled)
 
-pub spells_mark : {V : Type 0} (byte : ℕ) (why : Why) (place : ℕ) (next : Layout (Result V Malformed)) (end : Result V Malformed) (rest : List ℕ) → Spells next end rest → Spells (mark_then byte why place next) end (byte ∷ rest)
-spells_mark byte why place next end rest spelled = spells_byte (λ b. cond (eqb b byte) next (refuse why place)) end byte rest (rw (eq-eqb byte byte refl) spelled)
-
 pub spells_other : {V : Type 0} (byte : ℕ) (why : Why) (place : ℕ) (next : Layout (Result V Malformed)) (b : ℕ) → b ≢ byte → Spells (mark_then byte why place next) (Err (malformed why place)) (b ∷ [])
 spells_other {V} byte why place next b ne = let end : Result V Malformed = Err (malformed why place) in spells_byte (λ b. cond (eqb b byte) next (refuse why place)) end b [] (rw (differs b byte ne) (refl, refl))
 
-pub spells_magic : {V : Type 0} (magic : List ℕ) (start : ℕ) (next : Layout (Result V Malformed)) (end : Result V Malformed) (rest : List ℕ) → Spells next end rest → Spells (magic_then magic start next) end (magic ++ rest)
-spells_magic [] start next end rest spelled = spelled
-spells_magic (m ∷ ms) start next end rest spelled = spells_mark m Magic start (magic_then ms (start + 1) next) end (ms ++ rest) (spells_magic ms (start + 1) next end rest spelled)
-
-pub spells_other_magic : {V : Type 0} (magic : List ℕ) (start : ℕ) (next : Layout (Result V Malformed)) (n place b : ℕ) → n < length magic → place ≡ start + n → b ≢ slice_index magic n → Spells (magic_then magic start next) (Err (malformed Magic place)) (take n magic ++ b ∷ [])
+pub spells_other_magic : {V : Type 0} (magic : List ℕ) (start : ℕ) (next : Layout (Result V Malformed)) (n place b : ℕ) → n < length magic → place ≡ start + n → b ≢ slice_index magic n → Spells (marks_then magic start next) (Err (malformed Magic place)) (take n magic ++ b ∷ [])
 spells_other_magic [] start next n place b lt at ne = absurd (omega (arith, lt))
 spells_other_magic {V} (m ∷ ms) start next zero place b lt at ne =
     let is : start ≡ place = omega (arith, at) in
-    subst (λ (p : ℕ). Spells (magic_then (m ∷ ms) start next) (Err (malformed Magic p)) (b ∷ [])) is (spells_other m Magic start (magic_then ms (start + 1) next) b ne)
+    subst (λ (p : ℕ). Spells (marks_then (m ∷ ms) start next) (Err (malformed Magic p)) (b ∷ [])) is (spells_other m Magic start (marks_then ms (start + 1) next) b ne)
 spells_other_magic {V} (m ∷ ms) start next (suc n) place b lt at ne =
-    spells_mark m Magic start (magic_then ms (start + 1) next) (Err (malformed Magic place)) (take n ms ++ b ∷ []) (spells_other_magic ms (start + 1) next n place b (omega (arith, lt)) (omega (arith, at)) ne)
+    mark_spells m Magic start (marks_then ms (start + 1) next) (Err (malformed Magic place)) (take n ms ++ b ∷ []) (spells_other_magic ms (start + 1) next n place b (omega (arith, lt)) (omega (arith, at)) ne)
 
 pub spells_name : {X V : Type 0} (byte : X → ℕ) (names : List X) (place : ℕ) (next : X → Layout (Result V Malformed)) (end : Result V Malformed) (x : X) (rest : List ℕ) → named byte names (byte x) ≡ Some x → Spells (next x) end rest → Spells (name_then byte names place next) end (byte x ∷ rest)
 spells_name byte names place next end x rest back spelled = spells_byte (λ b. name_next place next (named byte names b)) end (byte x) rest (rw back spelled)

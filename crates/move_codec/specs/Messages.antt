@@ -1,8 +1,9 @@
 -- Migration messages, told from the left: the layout of the rows of Spelling and Refusals. (Own format.)
 use Rattle.std.specs.Prelude.{ℕ, ◌+◌, ◌==◌, ◌||◌, List, [], ◌∷◌, nat_lt, if◌then◌else◌, Option, Some, None, Result, Ok}
-use Rattle.vt_base.specs.declared.words.Why.TheVariants.{Magic, Version, Length, Value}
+use Rattle.vt_base.specs.declared.words.Why.TheVariants.{Version, Length, Value}
 use Rattle.vt_base.specs.declared.words.Malformed.{Malformed}
 use Rattle.vt_base.specs.Layout.{Layout, Ends, Field, byte_then, short_then, number_then, long_then}
+use Rattle.vt_base.specs.Marks.{marks_then}
 use Rattle.vt_base.specs.Refusing.{refuse, mark_then}
 use Rattle.move_codec.specs.declared.names.HostName.{HostName}
 use Rattle.move_codec.specs.declared.names.Part.{Part}
@@ -71,13 +72,9 @@ after_kind len k = if fits k len then receiver k len else refuse Length 5
 abbrev pub after_length : ℕ → Layout Ending
 after_length len = if nat_lt len 10 || nat_lt 4113 len then refuse Length 5 else name_then kind_byte kinds 9 (λ k. after_kind len k)
 
--- the bytes of the magic, the first of them at this place
-abbrev pub magic_then : {V : Type 0} → List ℕ → ℕ → Layout (Result V Malformed) → Layout (Result V Malformed)
-magic_then [] place next = next
-magic_then (byte ∷ bytes) place next = mark_then byte Magic place (magic_then bytes (place + 1) next)
-
+-- the version, and what follows it
 abbrev pub after_magic : Layout Ending
 after_magic = mark_then 1 Version 4 (number_then after_length)
 
 unfoldable pub messages : Layout Ending
-messages = magic_then magic 0 after_magic
+messages = marks_then magic 0 after_magic

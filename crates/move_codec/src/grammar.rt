@@ -1,7 +1,7 @@
 // How migration messages are told from the left.
 ghost use Rattle.std.specs.Prelude.{◌≡◌};
 ghost use Rattle.vt_base.specs.Verdict.{judged};
-ghost use Rattle.move_codec.specs.Messages.{offer, need, piece, refusal, body_of, receiver, after_length, messages};
+ghost use Rattle.move_codec.specs.Messages.{offer, need, piece, refusal, body_of, receiver, after_length, after_magic, messages};
 ghost use Rattle.move_codec.specs.Room.{messages_within};
 
 use crate::format::{
@@ -11,8 +11,8 @@ use crate::format::{
 use crate::names::{HostName, Kind, Part, Reason};
 use crate::outline::{Outline, Shape};
 use vt_base::{
-    Grammar, Judged, Malformed, Missing, Why, byte_of, field_of, long_of, number_of, refused,
-    short_of,
+    Grammar, Judged, Malformed, Missing, Why, behind_magic, byte_of, field_of, long_of, number_of,
+    refused, short_of,
 };
 
 /// The grammar of migration messages.
@@ -116,6 +116,17 @@ fn kind_of(length: u32, rest: &[u8]) -> Judged<Outline>
     receiver_of(kind, length, rest)
 }
 
+fn version_of(rest: &[u8]) -> Judged<Outline>
+    ensures { result ≡ judged after_magic rest.now }
+{
+    let (version, rest) = byte_of(rest)?;
+    if version != VERSION {
+        return refused(Why::Version, VERSION_PLACE);
+    }
+    let (length, rest) = number_of(rest)?;
+    kind_of(length, rest)
+}
+
 impl Grammar for Messages {
     type End = Result<Outline, Malformed>;
 
@@ -125,30 +136,11 @@ impl Grammar for Messages {
 
     ghost within = { λ _. messages_within };
 
-    #[tactic(auto, unfolding(crate::specs::Messages::messages))]
+    #[tactic(auto, using(crate::proofs::Marked::judged_message))]
     fn judge(&self, bytes: &[u8]) -> Result<Result<Outline, Malformed>, Missing> {
-        let [first, second, third, fourth] = MAGIC;
-        let (byte, rest) = byte_of(bytes)?;
-        if byte != first {
-            return refused(Why::Magic, 0);
+        match behind_magic(bytes, MAGIC)? {
+            Ok(rest) => version_of(rest),
+            Err(fault) => Ok(Err(fault)),
         }
-        let (byte, rest) = byte_of(rest)?;
-        if byte != second {
-            return refused(Why::Magic, 1);
-        }
-        let (byte, rest) = byte_of(rest)?;
-        if byte != third {
-            return refused(Why::Magic, 2);
-        }
-        let (byte, rest) = byte_of(rest)?;
-        if byte != fourth {
-            return refused(Why::Magic, 3);
-        }
-        let (version, rest) = byte_of(rest)?;
-        if version != VERSION {
-            return refused(Why::Version, VERSION_PLACE);
-        }
-        let (length, rest) = number_of(rest)?;
-        kind_of(length, rest)
     }
 }

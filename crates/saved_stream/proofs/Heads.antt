@@ -1,6 +1,6 @@
 -- What the head of a stream is, told from the left.
 use Rattle.std.proofs.Common.{◌≡◌, ◌≢◌, ℕ, ◌+◌, ◌<◌, ◌≤◌, Bool, true, false, cond, eqb, List, [], ◌∷◌, ◌++◌, length, take, drop, get_or, Result, Ok, Err, refl, sym, ap, subst, ◌∙◌, arith, lit≤}
-use Rattle.std.proofs.lemmas.Bool.{eqb-true, eq-eqb}
+use Rattle.std.proofs.lemmas.Bool.{eqb-true}
 use Rattle.std.proofs.lemmas.List.{length-take, length-drop, length-append, take-take, take_at, drop_all}
 use Rattle.std.proofs.Math.Seq.{take-add}
 use Rattle.vt_base.specs.declared.words.Why.{Why}
@@ -13,10 +13,12 @@ use Rattle.vt_base.specs.Refusing.{malformed, refuse, mark_then}
 use Rattle.vt_base.specs.Within.{mark_within}
 use Rattle.vt_base.proofs.Fronts.{passed}
 use Rattle.vt_base.proofs.Layouts.{open_wants, spells_front, wants_within, wants_positive}
-use Rattle.state_blobs.specs.Blobs.{Ending, marks_then}
+use Rattle.vt_base.specs.Marks.{marks_then}
+use Rattle.vt_base.proofs.Marks.{mark_spells, marks_spell}
+use Rattle.state_blobs.specs.Blobs.{Ending}
 use Rattle.saved_stream.specs.declared.format.TheConstants.{VERSION}
 use Rattle.saved_stream.specs.Streams.{magic}
-use Rattle.saved_stream.specs.Refusals.{head, IsHeadRefusedFor, IsHeadRefused, HasHead}
+use Rattle.saved_stream.specs.Refusals.{version_then, head, IsHeadRefusedFor, IsHeadRefused, HasHead}
 
 -- ---- all refusals of a layout
 
@@ -44,11 +46,6 @@ mark_told byte why place next v (b ∷ rest) spelled =
     let same = passed (eqb b byte) next (malformed why place) v rest spelled.1 in
     (rest, ap (λ (x : ℕ). x ∷ rest) (eqb-true _ _ same.0), same.1)
 
-pub mark_spells : {V : Type 0} (byte : ℕ) (why : Why) (place : ℕ) (next : Layout (Result V Malformed)) (end : Result V Malformed) (rest : List ℕ) → Spells next end rest
-    → Spells (mark_then byte why place next) end (byte ∷ rest)
-mark_spells byte why place next end rest spelled =
-    (omega arith, subst (λ (b : Bool). Spells (cond b next (refuse why place)) end rest) (sym (eq-eqb byte byte refl)) spelled)
-
 -- the bytes of a magic
 pub marks_told : (marks : List ℕ) (place : ℕ) (next : Layout Ending) (bytes : List ℕ) → Spells (marks_then marks place next) (Ok tt) bytes
     → (rest : List ℕ) × (bytes ≡ marks ++ rest) × Spells next (Ok tt) rest
@@ -57,11 +54,6 @@ marks_told (mark ∷ marks) place next bytes spelled =
     let first = mark_told mark Magic place (marks_then marks (place + 1) next) tt bytes spelled in
     let others = marks_told marks (place + 1) next first.0 first.2 in
     (others.0, first.1 ∙ ap (λ (r : List ℕ). mark ∷ r) others.1, others.2)
-
-pub marks_spell : (marks : List ℕ) (place : ℕ) (next : Layout Ending) (end : Ending) (rest : List ℕ) → Spells next end rest → Spells (marks_then marks place next) end (marks ++ rest)
-marks_spell [] place next end rest spelled = spelled
-marks_spell (mark ∷ marks) place next end rest spelled =
-    mark_spells mark Magic place (marks_then marks (place + 1) next) end (marks ++ rest) (marks_spell marks (place + 1) next end rest spelled)
 
 -- ---- the head
 
@@ -94,8 +86,6 @@ abbrev length_then : Layout Ending
 length_then = Field 4 (λ length. Ends (Ok tt))
 
 -- the version, and the length
-abbrev version_then : Layout Ending
-version_then = mark_then VERSION Version 4 length_then
 
 -- a head that is told has nine bytes, the first of them the magic and the version
 pub head_told : (bytes : List ℕ) → Spells head (Ok tt) bytes → (rest : List ℕ) × (bytes ≡ begin ++ rest) × (length rest ≡ 4)

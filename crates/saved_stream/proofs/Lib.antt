@@ -10,3 +10,4 @@ pub mod Passed
 pub mod Told
 pub mod Whole
 pub mod Walked
+pub mod Marked

@@ -2,12 +2,13 @@
 -- from the first byte. (Own definitions.)
 use Rattle.std.specs.Prelude.{◌≡◌, ◌≢◌, ◌⊎◌, ℕ, ◌+◌, ◌<◌, ◌≤◌, List, [], ◌∷◌, ◌++◌, length, take, drop, Err, Ok}
 use Rattle.vt_base.specs.Layout.{Layout, Ends, Field, Spells, IsOpen}
+use Rattle.vt_base.specs.Marks.{marks_then}
 use Rattle.vt_base.specs.Refusing.{malformed, mark_then}
 use Rattle.vt_base.specs.declared.words.Kind.TheVariants.{Permanent, Volatile, Saved}
 use Rattle.vt_base.specs.declared.words.Why.{Why}
 use Rattle.vt_base.specs.declared.words.Why.TheVariants.{Version, Length, Value, Cut, Extra}
 use Rattle.vt_base.specs.declared.words.Malformed.{Malformed}
-use Rattle.state_blobs.specs.Blobs.{Ending, marks_then}
+use Rattle.state_blobs.specs.Blobs.{Ending}
 use Rattle.state_blobs.specs.Refusals.{length_field}
 use Rattle.state_blobs.specs.Assembly.{Disagrees}
 use Rattle.crb_history.specs.Base.{Base}
@@ -19,9 +20,13 @@ use Rattle.saved_stream.specs.Streams.{magic, IsStream}
 
 -- ---- the head
 
--- the bytes of the magic, the version, and a length, which is compared only once the parts are whole
+-- the version, and a length, which is compared only once the parts are whole
+abbrev pub version_then : Layout Ending
+version_then = mark_then VERSION Version 4 (Field 4 (λ length. Ends (Ok tt)))
+
+-- a head
 unfoldable pub head : Layout Ending
-head = marks_then magic 0 (mark_then VERSION Version 4 (Field 4 (λ length. Ends (Ok tt))))
+head = marks_then magic 0 version_then
 
 -- The bytes end before a head does, or a field of it is refused.
 abbrev pub IsHeadRefusedFor : Why → ℕ → List ℕ → Type 0

@@ -4,38 +4,30 @@ ghost use Rattle.std.specs.Prelude.{◌≡◌, ◌≤◌, ◌≢◌, length, IfO
 ghost use Rattle.vt_base.specs.Verdict.{judged};
 ghost use Rattle.vt_base.specs.declared.words.Why.TheVariants.{Extra};
 ghost use Rattle.state_blobs.specs.Refusals.{length_field};
-ghost use Rattle.saved_stream.specs.Refusals.{head, HasHead, IsHeadRefused};
+ghost use Rattle.saved_stream.specs.Refusals.{version_then, head, HasHead, IsHeadRefused};
 
 use crate::format::{HEADER_SIZE, LENGTH_PLACE, MAGIC, VERSION, VERSION_PLACE};
-use vt_base::{Judged, Malformed, Missing, Why, byte_of, number_of, refused};
+use vt_base::{Judged, Malformed, Missing, Why, behind_magic, byte_of, number_of, refused};
 
-#[tactic(auto, unfolding(crate::specs::Refusals::head))]
-fn judge(bytes: &[u8]) -> Judged<()>
-    ensures { result ≡ judged head bytes.now }
+fn version_of(rest: &[u8]) -> Judged<()>
+    ensures { result ≡ judged version_then rest.now }
 {
-    let [c, r, b, s] = MAGIC;
-    let (first, rest) = byte_of(bytes)?;
-    if first != c {
-        return refused(Why::Magic, 0);
-    }
-    let (second, rest) = byte_of(rest)?;
-    if second != r {
-        return refused(Why::Magic, 1);
-    }
-    let (third, rest) = byte_of(rest)?;
-    if third != b {
-        return refused(Why::Magic, 2);
-    }
-    let (fourth, rest) = byte_of(rest)?;
-    if fourth != s {
-        return refused(Why::Magic, 3);
-    }
     let (version, rest) = byte_of(rest)?;
     if version != VERSION {
         return refused(Why::Version, VERSION_PLACE);
     }
     let (_length, _parts) = number_of(rest)?;
     Ok(Ok(()))
+}
+
+#[tactic(auto, using(crate::proofs::Marked::judged_head))]
+fn judge(bytes: &[u8]) -> Judged<()>
+    ensures { result ≡ judged head bytes.now }
+{
+    match behind_magic(bytes, MAGIC)? {
+        Ok(rest) => version_of(rest),
+        Err(fault) => Ok(Err(fault)),
+    }
 }
 
 /// The length that the head of a stream tells, or why there is no head.

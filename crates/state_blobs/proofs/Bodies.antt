@@ -24,7 +24,8 @@ use Rattle.tpm_core.specs.Steps.{IsFit, IsKept}
 use Rattle.state_blobs.specs.declared.format.TheConstants.{VERSION}
 use Rattle.state_blobs.specs.Texts.{magic_of, with_header, counted, volatile_body, saved_body, body_of, text_of, IsBlob, is_length, flag_fits}
 use Rattle.state_blobs.specs.Blobs.{body_then, after_magic, blob}
-use Rattle.state_blobs.proofs.Marks.{mark_spells, mark_cases, marks_spell, marks_cases}
+use Rattle.vt_base.proofs.Marks.{mark_spells, marks_spell}
+use Rattle.state_blobs.proofs.Marks.{mark_cases, marks_cases}
 use Rattle.state_blobs.specs.Running.{AreRegisters}
 use Rattle.state_blobs.proofs.Registers.{length-concat, registers_in, length-registers_in, AreRegisters-registers_in, concat-registers_in}
 

@@ -8,3 +8,4 @@ pub mod Fields
 pub mod Joined
 pub mod Once
 pub mod Apart
+pub mod Marked

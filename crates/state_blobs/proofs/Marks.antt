@@ -1,18 +1,15 @@
 -- The bytes of a magic at the front of what is told.
 use Rattle.std.proofs.Common.{◌≡◌, ◌≢◌, ℕ, ◌+◌, suc, Bool, cond, eqb, List, [], ◌∷◌, ◌++◌, take, Err, refl, sym, ap, subst, ◌∙◌, arith, inl, inr, ◌⊎◌}
-use Rattle.std.proofs.lemmas.Bool.{eqb-true, eqb-false, eq-eqb, ne_eqb}
+use Rattle.std.proofs.lemmas.Bool.{eqb-true, eqb-false, ne_eqb}
 use Rattle.vt_base.specs.Layout.{Layout, Spells}
 use Rattle.vt_base.specs.Refusing.{malformed, refuse, mark_then}
 use Rattle.vt_base.specs.declared.words.Why.{Why}
 use Rattle.vt_base.specs.declared.words.Why.TheVariants.{Magic}
 use Rattle.vt_base.proofs.Fronts.{chosen}
-use Rattle.state_blobs.specs.Blobs.{Ending, marks_then}
+use Rattle.vt_base.specs.Marks.{marks_then}
+use Rattle.vt_base.proofs.Marks.{mark_spells}
+use Rattle.state_blobs.specs.Blobs.{Ending}
 use Rattle.state_blobs.specs.Refusals.{FirstDiffersAt}
-
--- one mark: passed
-pub mark_spells : (mark : ℕ) (why : Why) (place : ℕ) (next : Layout Ending) (end : Ending) (rest : List ℕ) → Spells next end rest → Spells (mark_then mark why place next) end (mark ∷ rest)
-mark_spells mark why place next end rest spelled =
-    (omega arith, subst (λ (b : Bool). Spells (cond b next (refuse why place)) end rest) (sym (eq-eqb mark mark refl)) spelled)
 
 -- one mark: another byte stands there
 pub mark_refuses : (mark : ℕ) (why : Why) (place : ℕ) (next : Layout Ending) (other : ℕ) → other ≢ mark → Spells (mark_then mark why place next) (Err (malformed why place)) (other ∷ [])
@@ -28,11 +25,6 @@ mark_cases mark why place next end (b ∷ rest) spelled =
       | inl (is, then) ↦ inl (rest, ap (λ (x : ℕ). x ∷ rest) (eqb-true _ _ is), then)
       | inr (differs, ends) ↦ inr (b, eqb-false _ _ differs, ap (λ (r : List ℕ). b ∷ r) ends.1, sym ends.0)
     ]
-
-pub marks_spell : (marks : List ℕ) (place : ℕ) (next : Layout Ending) (end : Ending) (rest : List ℕ) → Spells next end rest → Spells (marks_then marks place next) end (marks ++ rest)
-marks_spell [] place next end rest spelled = spelled
-marks_spell (mark ∷ marks) place next end rest spelled =
-    mark_spells mark Magic place (marks_then marks (place + 1) next) end (marks ++ rest) (marks_spell marks (place + 1) next end rest spelled)
 
 -- the first byte that differs is refused
 pub marks_refuse : (marks : List ℕ) (place : ℕ) (next : Layout Ending) (i : ℕ) (bytes : List ℕ) → FirstDiffersAt i bytes marks

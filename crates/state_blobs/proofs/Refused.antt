@@ -16,7 +16,8 @@ use Rattle.state_blobs.specs.declared.format.TheConstants.{VERSION}
 use Rattle.state_blobs.specs.Texts.{magic_of, slice, IsBlob, is_length, flag_fits}
 use Rattle.state_blobs.specs.Blobs.{Ending, body_then, after_magic, blob}
 use Rattle.state_blobs.specs.Refusals.{FirstDiffersAt, BeginsAsBlob, length_field, IsRefusedFor, IsRefused}
-use Rattle.state_blobs.proofs.Marks.{mark_spells, mark_refuses, mark_cases, marks_spell, marks_refuse, marks_cases}
+use Rattle.vt_base.proofs.Marks.{mark_spells, marks_spell}
+use Rattle.state_blobs.proofs.Marks.{mark_refuses, mark_cases, marks_refuse, marks_cases}
 use Rattle.state_blobs.proofs.Bodies.{told_is_blob}
 
 -- ---- from what is told to the table

@@ -1,5 +1,5 @@
 -- Bytes are a blob, refused or cut.
-use Rattle.std.proofs.Common.{◌≡◌, ℕ, Bool, true, false, List, length, take, Result, Ok, Err, arith, inl, inr}
+use Rattle.std.proofs.Common.{ℕ, Bool, true, false, List, length, take, Result, Ok, Err, arith, inl, inr}
 use Rattle.std.specs.Prelude.{OnOk, IfOk}
 use Rattle.std.specs.Bool.{OnTrue, OnFalse}
 use Rattle.std.proofs.lemmas.List.{take_all}

@@ -1,9 +1,10 @@
 -- Blobs, told from the left. (Own definitions.)
-use Rattle.std.specs.Prelude.{ℕ, ◌+◌, ◌-◌, if◌then◌else◌, List, [], ◌∷◌, Result, Ok}
+use Rattle.std.specs.Prelude.{ℕ, ◌-◌, if◌then◌else◌, Result, Ok}
 use Rattle.vt_base.specs.Layout.{Layout, Ends, Field, byte_then, number_then}
+use Rattle.vt_base.specs.Marks.{marks_then}
 use Rattle.vt_base.specs.Refusing.{refuse, mark_then}
 use Rattle.vt_base.specs.declared.words.Kind.{Kind}
-use Rattle.vt_base.specs.declared.words.Why.TheVariants.{Magic, Version, Length, Value}
+use Rattle.vt_base.specs.declared.words.Why.TheVariants.{Version, Length, Value}
 use Rattle.vt_base.specs.declared.words.Malformed.{Malformed}
 use Rattle.state_blobs.specs.declared.format.TheConstants.{VERSION}
 use Rattle.state_blobs.specs.Texts.{magic_of, is_length, flag_fits}
@@ -11,11 +12,6 @@ use Rattle.state_blobs.specs.Texts.{magic_of, is_length, flag_fits}
 -- a whole blob, or why the bytes are refused
 abbrev pub Ending : Type 0
 Ending = Result (Unit {0}) Malformed
-
--- the bytes of a magic, each at its place, or a refusal at the first that differs
-abbrev pub marks_then : List ℕ → ℕ → Layout Ending → Layout Ending
-marks_then [] place next = next
-marks_then (mark ∷ marks) place next = mark_then mark Magic place (marks_then marks (place + 1) next)
 
 -- so many bytes, of which only the first is looked at
 abbrev pub body_then : Kind → ℕ → Layout Ending

@@ -11,7 +11,8 @@ use crate::format::{
     VOLATILE_LENGTH,
 };
 use vt_base::{
-    Grammar, Judged, Kind, Malformed, Missing, Why, byte_of, field_of, number_of, refused,
+    Grammar, Judged, Kind, Malformed, Missing, Why, behind_magic, byte_of, field_of, number_of,
+    refused,
 };
 
 /// The blobs of a kind.
@@ -89,25 +90,11 @@ impl Grammar for Blobs {
 
     ghost within = { λ g. blob_within g.0 };
 
-    #[tactic(auto, unfolding(crate::specs::Blobs::blob))]
+    #[tactic(auto, using(crate::proofs::Marked::judged_blob))]
     fn judge(&self, bytes: &[u8]) -> Result<Result<(), Malformed>, Missing> {
-        let [c, r, b, letter] = magic(self.0);
-        let (first, rest) = byte_of(bytes)?;
-        if first != c {
-            return refused(Why::Magic, 0);
+        match behind_magic(bytes, magic(self.0))? {
+            Ok(rest) => after_magic(self.0, rest),
+            Err(fault) => Ok(Err(fault)),
         }
-        let (second, rest) = byte_of(rest)?;
-        if second != r {
-            return refused(Why::Magic, 1);
-        }
-        let (third, rest) = byte_of(rest)?;
-        if third != b {
-            return refused(Why::Magic, 2);
-        }
-        let (fourth, rest) = byte_of(rest)?;
-        if fourth != letter {
-            return refused(Why::Magic, 3);
-        }
-        after_magic(self.0, rest)
     }
 }

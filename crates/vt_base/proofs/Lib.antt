@@ -5,3 +5,4 @@ pub mod Layouts
 pub mod Numbers
 pub mod Streams
 pub mod Zeros
+pub mod Marks

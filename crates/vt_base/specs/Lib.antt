@@ -12,3 +12,4 @@ pub mod Status
 pub mod Stream
 pub mod Verdict
 pub mod Within
+pub mod Marks

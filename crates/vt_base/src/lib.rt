@@ -24,8 +24,6 @@ mod sink;
 mod source;
 mod standard;
 mod status;
-#[cfg(test)]
-mod tests;
 mod words;
 
 pub use buf::{BUFFER_LENGTH, Buf};
@@ -36,7 +34,7 @@ pub use held::Held;
 pub use laws::{ends_are_told_apart, streams_are_told_once};
 pub use memory::{MemSink, MemSource};
 pub use plan::FaultPlan;
-pub use refusing::{Judged, refused};
+pub use refusing::{Judged, behind_magic, refused};
 pub use sink::{Sink, write_all};
 pub use source::{Input, Source, read_all};
 pub use standard::{StdSink, StdSource};

@@ -1,7 +1,9 @@
 // Judges of formats whose bytes may be refused.
-ghost use Rattle.std.specs.Prelude.{◌≡◌, Ok, Err};
+ghost use Rattle.std.specs.Prelude.{◌≡◌, Ok, Err, IfOk, IfErr};
+ghost use Rattle.vt_base.specs.Marks.{marks_at};
 ghost use Rattle.vt_base.specs.Refusing.{malformed};
 
+use crate::fields::byte_of;
 use crate::grammar::Missing;
 use crate::words::{Malformed, Why};
 
@@ -13,4 +15,31 @@ pub fn refused<V>(why: Why, place: u32) -> Judged<V>
     ensures { result ≡ Ok (Err (malformed why place)) }
 {
     Ok(Err(Malformed { why, place }))
+}
+
+/// What stands behind a magic at the front of the bytes; or a refusal at the first byte that differs.
+#[tactic(auto, unfolding(crate::specs::Verdict::field_at))]
+pub fn behind_magic(bytes: &[u8], magic: [u8; 4]) -> Judged<&[u8]>
+    ensures whole { IfOk result (λ r. IfOk r (λ rest. marks_at magic 0 bytes.now ≡ Ok (Ok rest.now))) }
+    ensures refused { IfOk result (λ r. IfErr r (λ fault. marks_at magic 0 bytes.now ≡ Ok (Err fault))) }
+    ensures short { IfErr result (λ lack. marks_at magic 0 bytes.now ≡ Err lack) }
+{
+    let [m, a, g, c] = magic;
+    let (first, rest) = byte_of(bytes)?;
+    if first != m {
+        return refused(Why::Magic, 0);
+    }
+    let (second, rest) = byte_of(rest)?;
+    if second != a {
+        return refused(Why::Magic, 1);
+    }
+    let (third, rest) = byte_of(rest)?;
+    if third != g {
+        return refused(Why::Magic, 2);
+    }
+    let (fourth, rest) = byte_of(rest)?;
+    if fourth != c {
+        return refused(Why::Magic, 3);
+    }
+    Ok(Ok(rest))
 }
