@@ -12,7 +12,7 @@ ghost use Rattle.saved_stream.specs.declared.part.Part.TheVariants.{Record, Blob
 ghost use Rattle.saved_stream.specs.Parts.{parts};
 ghost use Rattle.saved_stream.specs.Streams.{IsStream};
 ghost use Rattle.saved_stream.specs.Refusals.{moved, IsStopped, ArePartsRefused, HasHead, IsStreamRefused};
-ghost use Rattle.saved_stream.specs.Places.{between, IsPartAt, AreAt};
+ghost use Rattle.saved_stream.specs.Places.{between, IsLeft, IsPartAt, AreAt};
 
 use crate::format::{HEADER_SIZE, LENGTH_PLACE};
 use crate::head::length_of;
@@ -38,6 +38,7 @@ pub fn read_stream<P: Port>(
 
     ensures stream { IfOk result (λ read. IfOk read (λ tpm. IsStream bytes.now (record { tpm = tpm; device = held_values device.new }))) }
     ensures refused { IfOk result (λ read. IfErr read (λ fault. IsStreamRefused fault bytes.now)) }
+    ensures left { IfOk result (λ read. OnErr read (IsLeft bytes.now device.old device.new)) }
     ensures err { OnErr result (device.new ≡ device.old) }
     ensures held { device.new.held ≡ true }
     ensures port { device.new.port ≡ device.old.port }
@@ -74,6 +75,7 @@ fn read_whole<P: Port>(
     requires saved { saved.old ≡ record { kind = Saved; begun = []; whole = false } }
     ensures stream { IfOk result (λ tpm. IsStream bytes.now (record { tpm = tpm; device = held_values device.new })) }
     ensures refused { IfErr result (λ fault. IsStreamRefused fault bytes.now) }
+    ensures left { OnErr result (IsLeft bytes.now device.old device.new) }
     ensures held { device.new.held ≡ true }
     ensures port { device.new.port ≡ device.old.port }
     ensures sound { OnOk result (IsSound P.known device.new) }
@@ -120,6 +122,7 @@ fn parts_at<P: Port>(
     ensures volatile { IfOk result (λ at. volatile.new ≡ record { kind = Volatile; begun = between bytes.now at.volatile at.saved; whole = true }) }
     ensures saved { IfOk result (λ at. saved.new ≡ record { kind = Saved; begun = between bytes.now at.saved at.end; whole = true }) }
     ensures refused { IfErr result (λ fault. ArePartsRefused parts 9 fault (drop 9 bytes.now)) }
+    ensures left { OnErr result (IsLeft bytes.now device.old device.new) }
     ensures held { device.new.held ≡ true }
     ensures port { device.new.port ≡ device.old.port }
     ensures sound { OnOk result (IsSound P.known device.new) }
@@ -147,6 +150,7 @@ fn record_in<P: Port>(bytes: &[u8], from: usize, device: &mut Device<P>) -> Resu
     ensures part { IfOk result (IsPartAt Record bytes.now from) }
     ensures ok { IfOk result (λ end. IsRecord (between bytes.now from end) (held_values device.new)) }
     ensures refused { IfErr result (λ fault. IsStopped Record from fault (drop from bytes.now)) }
+    ensures unchanged { OnErr result (device.new ≡ device.old) }
     ensures held { device.new.held ≡ true }
     ensures port { device.new.port ≡ device.old.port }
     ensures sound { OnOk result (IsSound P.known device.new) }
