@@ -34,3 +34,8 @@ Saves b t (saved.NotYet number) old new = (is_under_way b (history b t) ≡ true
 abbrev pub Loads : List ℕ → Loaded → Type 0
 Loads bytes (loaded.World w) = (b : Base) × IsStream bytes b × Follows b [] w
 Loads bytes (loaded.Bad fault) = IsStreamRefused fault bytes
+
+-- a reply of the emulator that was loaded has at most so many bytes of a blob
+abbrev pub HasPiece : ℕ → Loaded → Type 0
+HasPiece piece (loaded.World w) = w.link.desk.piece ≡ piece
+HasPiece piece (loaded.Bad fault) = Unit {0}

@@ -8,7 +8,7 @@ ghost use Rattle.crb_history.specs.Replies.{Transcript};
 ghost use Rattle.saved_stream.specs.Streams.{stream_text};
 ghost use Rattle.vt_world.specs.Follows.{Follows};
 ghost use Rattle.vt_world.specs.Blobs.{IsReadable};
-ghost use Rattle.vt_world.specs.Saving.{CanSave, Saves, Loads};
+ghost use Rattle.vt_world.specs.Saving.{CanSave, Saves, Loads, HasPiece};
 
 use crate::blobs::{fetch, switch_on};
 use crate::wires::MemWires;
@@ -72,7 +72,8 @@ impl World {
     pub fn load(alloc: Global, bytes: &[u8], piece: u32) -> Result<Loaded, AllocError>
         requires least { 1 ≤ piece }
         requires most { piece ≤ 4096 }
-        ensures { IfOk result (Loads bytes.now) }
+        ensures loads { IfOk result (Loads bytes.now) }
+        ensures piece { IfOk result (HasPiece piece) }
     {
         let mut device = Device::new(alloc, PlainPort::new())?;
         let Ok(()) = device.stop() else {

@@ -41,7 +41,8 @@ impl World {
     pub fn new(alloc: Global, seed: [u8; SEED_SIZE], piece: u32) -> Result<World, AllocError>
         requires least { 1 ≤ piece }
         requires most { piece ≤ 4096 }
-        ensures { IfOk result (Follows (fresh seed) []) }
+        ensures follows { IfOk result (Follows (fresh seed) []) }
+        ensures piece { IfOk result (λ w. w.link.desk.piece ≡ piece) }
     {
         let device = Device::new(alloc, PlainPort::new())?;
         let mut wires = MemWires::new(alloc, seed, piece)?;

@@ -23,13 +23,13 @@ returns-in_default g c = record {
 pub unreachable-requires : goal.unreachable-requires
 unreachable-requires g c =
     let behind = c.streams_are_told_once.ensures.behind c.args.input.now c.args.fault.place (at_end c.args.input.now c.args.fault c.requires.refused c.in-Extra.is) in
-    let front = subst (λ (bytes : List ℕ). Loads bytes c.in-Ok-Bad.field-0) c.split_at.ensures.front c.in-Ok-Bad.ensures in
+    let front = subst (λ (bytes : List ℕ). Loads bytes c.in-Ok-Bad.field-0) c.split_at.ensures.front c.in-Ok-Bad.ensures.loads in
     let bad = subst (Loads (take c.args.fault.place c.args.input.now)) c.in-Ok-Bad.field-0-is front in
     c.streams_are_told_once.ensures.not_refused (take c.args.fault.place c.args.input.now) behind.1 c.in-Ok-Bad.field-0-0 behind.2 bad
 
 pub returns-in-Ok-World-clause-writes : goal.returns-in-Ok-World-clause-writes
 returns-in-Ok-World-clause-writes g c =
-    let front = subst (λ (bytes : List ℕ). Loads bytes c.in-Ok-World.field-0) c.split_at.ensures.front c.in-Ok-World.ensures in
+    let front = subst (λ (bytes : List ℕ). Loads bytes c.in-Ok-World.field-0) c.split_at.ensures.front c.in-Ok-World.ensures.loads in
     let loads = subst (Loads (take c.args.fault.place c.args.input.now)) c.in-Ok-World.field-0-is front in
     let lines = subst (λ (script : List ℕ). Writes c.follow.result (followed loads.0 script) (g.K.Sink.written c.args.sink.now) (g.K.Sink.written c.follow.new.sink)) c.split_at.ensures.back (c.follow.ensures.writes loads.0 loads.2) in
     resumed-writes c.args.input.now (front_of c.args.input.now c.args.fault.place loads.0 loads.1) c.follow.result _ _ c.requires.short lines

@@ -7,8 +7,8 @@ use Rattle.vt_world.proofs.Resets.{new-follows}
 use Rattle.vt_world.proofs.Steps.{the_same}
 use Rattle.vt_world.proofs.world.World.new.Goals as goal
 
-pub returns : goal.returns
-returns c =
+pub returns-clause-follows : goal.returns-clause-follows
+returns-clause-follows c =
     let whole : length c.args.seed ≡ 32 = search rules in
     let quiet : IsQuiet (fresh_wires (Some (manufactured c.args.seed)) c.args.piece).link = record { nothing = refl; listens = refl } in
     let device = the_same _ _ c.in_ok-device.ensures.told in
