@@ -1,5 +1,6 @@
 pub mod Prefixes
 pub mod Endings
+pub mod Lines
 pub mod Words
 pub mod Driving
 pub mod Answering

@@ -79,6 +79,7 @@ pub stands-bad : (b : Base) (script rest : List ℕ) (t : Transcript) (world : W
 stands-bad b script rest t world text after stands cut bad = done-bad event_of line_of script rest t stands.lines text after cut bad
 
 pub drives-start : (script : List ℕ) (world : WorldState) → Follows start [] world → DrivesAt script script [] world
+unfolding start
 drives-start script world follows = record { done = refl; history = []; rest_at = record { after = record { transcript = []; follows = follows; unordered = refl; told = refl; legal = tt }; idle = refl }; past = refl }
 
 -- one more line of a drive, and the text of its response

@@ -1,5 +1,5 @@
 -- The lines of a script are done, and then the host is saved.
-use Rattle.std.proofs.Common.{◌≡◌, ℕ, Bool, true, false, List, [], ◌∷◌, ◌++◌, length, map, refl, ap, sym, subst, ◌∙◌, Some, None}
+use Rattle.std.proofs.Common.{◌≡◌, ℕ, Bool, true, false, List, [], ◌∷◌, ◌++◌, length, map, refl, ap, sym, subst, ◌∙◌, Some, None, inl, inr}
 use Rattle.std.specs.Prelude.{◌≢◌, Option, option_and_then, if◌then◌else◌}
 use Rattle.vt_base.specs.declared.status.Status.{Status}
 use Rattle.vt_base.specs.declared.status.Status.TheVariants.{Ok, NotYet}
@@ -17,9 +17,9 @@ use Rattle.vt_world.specs.declared.saving.Saved.TheVariants as saved
 use Rattle.crbsim.specs.Start.{start}
 use Rattle.crbsim.specs.Run.{IsShort, Writes, Finishes, Tells, in_order, meanings}
 use Rattle.crbsim.specs.Saved.{plain_line, plain_event_of, AreLines, SuspendsAt, suspended, not_yet_text}
-use Rattle.crbsim.specs.Loop.{SuspendsOn}
+use Rattle.crbsim.specs.Loop.{SuspendsOn, WritesSaved}
 use Rattle.std.proofs.lemmas.List.{append-nil}
-use Rattle.crbsim.proofs.Endings.{writes-end, writes-told}
+use Rattle.crbsim.proofs.Endings.{writes-nothing, writes-end, writes-told}
 use Rattle.crbsim.proofs.Prefixes.{done-front, done-more, done-bad}
 
 pub suspends-start : (script : List ℕ) (world : WorldState) → Follows start [] world → SuspendsOn script script [] [] world
@@ -71,6 +71,7 @@ pub can_save : (script rest : List ℕ) (lines : List Line) (t : Transcript) (wo
     → ((b : Base) (ls : List Line) → HasNoOrder ls → order_of (plain b ls) ≡ None)
     → ((b : Base) (ls : List Line) → HasNoOrder ls → b.device.phase ≢ Lost → phase_of b (plain_history b ls) ≢ Lost)
     → CanSave start t world
+unfolding start
 can_save script rest lines t world on one unordered working =
     let same : t ≡ plain start lines = one start lines t on.plain on.same on.run in
     record {
@@ -93,3 +94,9 @@ suspends-early script rest lines t world number stream result a b on end one sho
     let ends : (suspended script).Ends NotYet (not_yet_text number) =
     (lines, suspends-all script rest lines t world on end, subst (λ (u : Transcript). SuspendsAt (history start u) NotYet (not_yet_text number)) one (saves.0, ap not_yet_text saves.1)) in
     writes-told (suspended script) NotYet result a b (not_yet_text number) short ends (short, ends) told
+
+pub suspends-saved : (script rest : List ℕ) (lines : List Line) (t : Transcript) (world : WorldState) (result : Status) (a b : Option (List ℕ)) → SuspendsOn script rest lines t world → rest ≡ []
+    → t ≡ plain start lines → IsShort script → WritesSaved start t result a b → Writes result (suspended script) a b
+suspends-saved script rest lines t world result a b on end one short (inl (stream, saves, finishes)) = suspends-whole script rest lines t world stream result a b on end one short saves finishes
+suspends-saved script rest lines t world result a b on end one short (inr (inl (number, stream, saves, told))) = suspends-early script rest lines t world number stream result a b on end one short saves told
+suspends-saved script rest lines t world result a b on end one short (inr (inr (is, kept))) = rw (is, kept) (writes-nothing a (suspended script))

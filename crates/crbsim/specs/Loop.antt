@@ -1,21 +1,28 @@
 -- Where the loops over the lines stand.
-use Rattle.std.specs.Prelude.{◌≡◌, ℕ, List, ◌++◌, map, Option, Some}
+use Rattle.std.specs.Prelude.{◌≡◌, ◌⊎◌, ℕ, List, [], ◌++◌, map, Option, Some}
 use Rattle.std.specs.Io.KnownBytes.{Appends}
+use Rattle.vt_base.specs.Output.{AppendsFront}
+use Rattle.vt_base.specs.declared.status.Status.{Status}
+use Rattle.vt_base.specs.declared.status.Status.TheVariants.{Ok, Memory, NotYet, WriteFault}
 use Rattle.crb_history.specs.Device.{executed}
 use Rattle.crb_history.specs.Event.{History}
 use Rattle.crb_history.specs.Base.{Base}
 use Rattle.crb_history.specs.Replies.{Transcript, IsRun, line_of}
 use Rattle.vt_script.specs.Drive.{drive_of}
+use Rattle.vt_script.specs.Replies.{reply_text}
 use Rattle.vt_script.specs.Script.{event_of}
 use Rattle.vt_script.specs.declared.drive.DriveLine.{DriveLine}
 use Rattle.vt_script.specs.declared.event.Event.{Event as Line}
+use Rattle.vt_script.specs.declared.reply.Reply.{Reply}
 use Rattle.crb_history.specs.Plain.{HasNoOrder}
-use Rattle.crbsim.specs.Saved.{plain_event_of}
-use Rattle.crbsim.specs.Calls.{IsAtRest}
+use Rattle.crbsim.specs.Saved.{plain_event_of, not_yet_text}
+use Rattle.crbsim.specs.Calls.{IsAtRest, Responds}
 use Rattle.crbsim.specs.Driven.{past_of}
 use Rattle.crbsim.specs.Start.{start}
-use Rattle.vt_world.specs.Follows.{WorldState, Follows}
-use Rattle.crbsim.specs.Run.{meanings, in_order, spelled}
+use Rattle.vt_world.specs.Follows.{WorldState, Follows, Steps}
+use Rattle.vt_world.specs.Saving.{Saves}
+use Rattle.vt_world.specs.declared.saving.Saved.TheVariants as saved
+use Rattle.crbsim.specs.Run.{meanings, in_order, spelled, Finishes, Spills, Tells, TellsBadLine}
 
 -- these lines are done and these bytes are left
 abbrev pub AreDone : {L : Type 0} → (List ℕ → Option L) → List ℕ → List ℕ → List (Option L) → Type 0
@@ -47,3 +54,39 @@ pub record SuspendsOn (script rest : List ℕ) (lines : List Line) (t : Transcri
   pub same : map line_of t ≡ map Some lines
   pub run : IsRun start t
   pub follows : Follows start t world
+
+-- ---- one line
+
+-- a line of a replay was done, and its reply waits behind what waited
+pub record Replied (b : Base) (t : Transcript) (text waiting now : List ℕ) (new : WorldState) : Type 0 where
+  pub line : Line
+  pub reply : Reply
+  pub said : event_of text ≡ Some line
+  pub steps : Steps b t line reply new
+  pub waits : now ≡ waiting ++ reply_text reply
+
+-- the command of a drive line was done, and its response waits behind what waited
+pub record Responded (b : Base) (p : History) (text waiting now : List ℕ) (new : WorldState) : Type 0 where
+  pub line : DriveLine
+  pub said : drive_of text ≡ Some line
+  pub responds : Responds b p line waiting now new
+
+-- the run goes on: what waits after the line, or a front of it, is written
+abbrev pub GoesOn : (List ℕ → Type 0) → List ℕ → Option (List ℕ) → Option (List ℕ) → Type 0
+GoesOn Waits after old new = (now : List ℕ) × Waits now × Spills old new now after
+
+-- the run ends here: at a line that isn't in the grammar, for want of memory, or since what waits isn't written
+abbrev pub EndsHere : Type 0 → (List ℕ → Type 0) → ℕ → List ℕ → Status → Option (List ℕ) → Option (List ℕ) → Type 0
+EndsHere IsBad Waits number waiting status old new =
+    (IsBad × TellsBadLine number waiting status old new)
+    ⊎ (Finishes Memory (waiting ++ []) status old new
+    ⊎ ((status ≡ WriteFault) × (now : List ℕ) × Waits now × AppendsFront old new now))
+
+-- ---- the end of a suspension
+
+-- the saved stream is written, or the number of the command that is claimed and unfinished, or for want of memory nothing
+abbrev pub WritesSaved : Base → Transcript → Status → Option (List ℕ) → Option (List ℕ) → Type 0
+WritesSaved b t status old new =
+    ((stream : List ℕ) × Saves b t saved.Whole [] stream × Finishes Ok (stream ++ []) status old new)
+    ⊎ (((number : ℕ) × (stream : List ℕ) × Saves b t (saved.NotYet number) [] stream × Tells NotYet (not_yet_text number) status old new)
+    ⊎ ((status ≡ Memory) × (new ≡ old)))

@@ -1,11 +1,12 @@
 //! The command `drive`: a driver does the command of each line, and the response is written.
-ghost use Rattle.std.specs.Prelude.{◌≡◌, ◌≢◌, ◌≤◌, OnOk, OnErr, length, take};
+ghost use Rattle.std.specs.Prelude.{◌≡◌, ◌≢◌, ◌≤◌, None, IfNone, IfSome, OnOk, OnErr, length, take};
 ghost use Rattle.vt_base.specs.Faults.{Rose};
 ghost use Rattle.tpm_frame.specs.Sizes.{IsWellSized};
-ghost use Rattle.vt_script.specs.Drive.{HasWellSized};
+ghost use Rattle.vt_script.specs.Drive.{HasWellSized, drive_of};
 ghost use Rattle.crb_history.specs.Base.{Base};
 ghost use Rattle.crb_history.specs.Event.{History};
 ghost use Rattle.crbsim.specs.Calls.{Calls, IsAtRest, Responds};
+ghost use Rattle.crbsim.specs.Loop.{Responded, GoesOn, EndsHere};
 ghost use Rattle.crbsim.specs.Run.{IsShort, Writes, driven_by};
 
 use crate::output::{bad_line, finish, spill};
@@ -37,21 +38,47 @@ pub fn drive<K: Sink>(alloc: Global, script: &[u8], sink: &mut K) -> Status
     while !rest.is_empty() {
         let (text, after) = first_line(rest);
         number += 1;
-        let Ok(found) = parse_drive(alloc, text) else {
-            return finish(sink, &waiting, &[], Status::Memory);
-        };
-        let Some(line) = found else {
-            return bad_line(alloc, number, &waiting, sink);
-        };
-        let Ok(()) = respond(alloc, &mut world, &line, &mut waiting) else {
-            return finish(sink, &waiting, &[], Status::Memory);
-        };
-        let Ok(()) = spill(&mut waiting, sink) else {
-            return Status::WriteFault;
-        };
+        let end = drive_line(alloc, number, text, &mut world, &mut waiting, sink);
+        if let Some(status) = end {
+            return status;
+        }
         rest = after;
     }
     finish(sink, &waiting, &[], Status::Ok)
+}
+
+// Does the command of a line, and has its response wait or written. It gives the status of a run that ends with this line.
+fn drive_line<K: Sink>(
+    alloc: Global,
+    number: u64,
+    text: &[u8],
+    world: &mut World,
+    waiting: &mut Vec<u8>,
+    sink: &mut K,
+) -> Option<Status>
+    requires rests { (b : Base) × (p : History) × IsAtRest b p world.old }
+    ensures goes_on { IfNone result ((b : Base) (p : History) → IsAtRest b p world.old
+        → GoesOn (λ now. Responded b p text.now waiting.old.items now world.new) waiting.new.items (K.written sink.old) (K.written sink.new)) }
+    ensures ends { IfSome result (λ status. (b : Base) (p : History) → IsAtRest b p world.old
+        → EndsHere (drive_of text.now ≡ None) (λ now. Responded b p text.now waiting.old.items now world.new) number waiting.old.items status (K.written sink.old) (K.written sink.new)) }
+    ensures usage { IfSome result (λ status. status ≢ Status.Usage) }
+    ensures read { IfSome result (λ status. status ≢ Status.ReadFault) }
+    ensures write_fault { IfSome result (λ status. status ≡ Status.WriteFault → Rose (K.faults sink.old) (K.faults sink.new)) }
+    ensures later { IfNone result (K.faults sink.old ≤ K.faults sink.new) }
+{
+    let Ok(found) = parse_drive(alloc, text) else {
+        return Some(finish(sink, waiting, &[], Status::Memory));
+    };
+    let Some(line) = found else {
+        return Some(bad_line(alloc, number, waiting, sink));
+    };
+    let Ok(()) = respond(alloc, world, &line, waiting) else {
+        return Some(finish(sink, waiting, &[], Status::Memory));
+    };
+    let Ok(()) = spill(waiting, sink) else {
+        return Some(Status::WriteFault);
+    };
+    None
 }
 
 // Does the command of a line, and appends the text of its response.

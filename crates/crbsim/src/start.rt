@@ -9,6 +9,7 @@ use tpm_core::SEED_SIZE;
 use vt_world::World;
 
 /// A host after a reset, whose TPM has a seed of zeros and was powered on once.
+#[tactic(auto, unfolding(crate::specs::Start::start))]
 pub fn start(alloc: Global) -> Result<World, AllocError>
     ensures { IfOk result (Follows start []) }
 {

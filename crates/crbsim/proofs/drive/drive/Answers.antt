@@ -1,10 +1,11 @@
-use Rattle.std.proofs.Common.{◌≡◌, ◌∙◌, length, rules, refl, sym, [], ◌∷◌, arith}
+use Rattle.std.proofs.Common.{◌≡◌, length, rules, refl, [], ◌∷◌, arith}
 use Rattle.vt_base.proofs.Known.{Appends-nothing}
 use Rattle.crbsim.specs.Start.{start}
 use Rattle.crbsim.specs.Driven.{driven}
 use Rattle.crbsim.specs.Run.{driven_by}
-use Rattle.crbsim.proofs.Prefixes.{drives-start, drives-more, drives-gives, drives-all, drives-bad}
-use Rattle.crbsim.proofs.Endings.{writes-nothing, writes-bad, writes-memory, writes-unspilt, writes-all, waits-to, waits-less, empty}
+use Rattle.crbsim.proofs.Prefixes.{drives-start, drives-more, drives-gives, drives-all}
+use Rattle.crbsim.proofs.Endings.{writes-nothing, writes-all, waits-to, waits-less, empty}
+use Rattle.crbsim.proofs.Lines.{drive-ends}
 use Rattle.crbsim.proofs.drive.drive.Goals as goal
 
 pub returns-in_default-clause-writes : goal.returns-in_default-clause-writes
@@ -18,43 +19,23 @@ loop-rest-init g c = record {
   later = omega arith;
 }
 
-pub returns-in_default-parse_drive-clause-writes : goal.returns-in_default-parse_drive-clause-writes
-returns-in_default-parse_drive-clause-writes g c =
+pub returns-in-Some-clause-writes : goal.returns-in-Some-clause-writes
+returns-in-Some-clause-writes g c =
     let done = c.loop-rest.invariant.done in
-    writes-memory (driven_by c.args.script.now) _ _ _ (length done.0) c.loop-rest.waiting.items (driven start.tpm done.0) c.requires (drives-gives c.args.script.now c.loop-rest.rest.now done.0 c.loop-rest.world done.1) done.2 c.finish.result
-    (rw c.deref.ensures.value at c.finish.ensures.writes)
-
-pub returns-in_default-found-clause-writes : goal.returns-in_default-found-clause-writes
-returns-in_default-found-clause-writes g c =
-    let done = c.loop-rest.invariant.done in
-    writes-bad (driven_by c.args.script.now) _ _ _ (length done.0) c.loop-rest.waiting.items (driven start.tpm done.0) c.requires (drives-gives c.args.script.now c.loop-rest.rest.now done.0 c.loop-rest.world done.1) done.2 _ c.bad_line.result
-    (drives-bad c.args.script.now c.loop-rest.rest.now done.0 c.loop-rest.world c.first_line.result.0.now c.first_line.result.1.now done.1 c.first_line.ensures.lines (sym c.in-Ok-parse_drive.ensures.line ∙ c.in_default-found.is))
-    (omega (arith, done.3)) (rw c.deref-in_default-found.ensures.value at c.bad_line.ensures.tells)
-
-pub returns-in_default-respond-clause-writes : goal.returns-in_default-respond-clause-writes
-returns-in_default-respond-clause-writes g c =
-    let done = c.loop-rest.invariant.done in
-    let kept : c.deref-in_default-respond.result.now ≡ c.loop-rest.waiting.items = c.deref-in_default-respond.ensures.value ∙ c.in_default-respond.ensures.err in
-    writes-memory (driven_by c.args.script.now) _ _ _ (length done.0) c.loop-rest.waiting.items (driven start.tpm done.0) c.requires (drives-gives c.args.script.now c.loop-rest.rest.now done.0 c.loop-rest.world done.1) done.2 c.finish-in_default-respond.result
-    (rw kept at c.finish-in_default-respond.ensures.writes)
-
-pub returns-in_default-spill-clause-writes : goal.returns-in_default-spill-clause-writes
-returns-in_default-spill-clause-writes g c =
-    let done = c.loop-rest.invariant.done in
-    let further = drives-more c.args.script.now c.loop-rest.rest.now done.0 c.loop-rest.world c.respond.new.world c.first_line.result.0.now c.first_line.result.1.now c.in-Some.line c.loop-rest.waiting.items c.respond.new.into.items done.1 c.first_line.ensures.lines (sym c.in-Ok-parse_drive.ensures.line ∙ c.in-Some.is) (c.in-Ok-respond.ensures.ok start done.1.history done.1.rest_at) in
-    let more = waits-to _ _ c.loop-rest.waiting.items c.respond.new.into.items further.response (driven start.tpm done.0) (driven start.tpm (c.in-Some.line ∷ done.0)) done.2 further.appended further.whole in
-    writes-unspilt (driven_by c.args.script.now) _ _ _ _ c.respond.new.into.items (driven start.tpm (c.in-Some.line ∷ done.0)) c.requires
-    (drives-gives c.args.script.now c.first_line.result.1.now (c.in-Some.line ∷ done.0) c.respond.new.world further.drives) more c.in_default-spill.ensures.err
+    drive-ends c.args.script.now c.loop-rest.rest.now done.0 c.loop-rest.world c.first_line.result.0.now c.first_line.result.1.now _ _ _ _ _ _ c.in-Some.status c.requires done.1 done.2 c.first_line.ensures.lines (omega (arith, done.3))
+    (c.in-Some.ensures.ends start done.1.history done.1.rest_at)
 
 pub loop-rest-preserved : goal.loop-rest-preserved
 loop-rest-preserved g c =
     let done = c.loop-rest.invariant.done in
-    let further = drives-more c.args.script.now c.loop-rest.rest.now done.0 c.loop-rest.world c.respond.new.world c.first_line.result.0.now c.first_line.result.1.now c.in-Some.line c.loop-rest.waiting.items c.respond.new.into.items done.1 c.first_line.ensures.lines (sym c.in-Ok-parse_drive.ensures.line ∙ c.in-Some.is) (c.in-Ok-respond.ensures.ok start done.1.history done.1.rest_at) in
-    let more = waits-to _ _ c.loop-rest.waiting.items c.respond.new.into.items further.response (driven start.tpm done.0) (driven start.tpm (c.in-Some.line ∷ done.0)) done.2 further.appended further.whole in
+    let on = c.in_default-end.ensures.goes_on start done.1.history done.1.rest_at in
+    let responded = on.1 in
+    let further = drives-more c.args.script.now c.loop-rest.rest.now done.0 c.loop-rest.world _ c.first_line.result.0.now c.first_line.result.1.now responded.line c.loop-rest.waiting.items on.0 done.1 c.first_line.ensures.lines responded.said responded.responds in
+    let more = waits-to _ _ c.loop-rest.waiting.items on.0 further.response (driven start.tpm done.0) (driven start.tpm (responded.line ∷ done.0)) done.2 further.appended further.whole in
     record {
-      done = (c.in-Some.line ∷ done.0, further.drives, waits-less _ _ _ _ _ _ more c.in-Ok-spill.ensures.ok, omega (arith, done.3));
+      done = (responded.line ∷ done.0, further.drives, waits-less _ _ _ _ _ _ more on.2, omega (arith, done.3));
       count = omega (arith, c.first_line.ensures.shorter, c.loop-rest.invariant.count);
-      later = omega (arith, c.spill.ensures.cause.later, c.loop-rest.invariant.later);
+      later = omega (arith, c.in_default-end.ensures.later, c.loop-rest.invariant.later);
     }
 
 pub returns-clause-writes : goal.returns-clause-writes
@@ -63,6 +44,6 @@ returns-clause-writes g c =
     let end : length c.loop-rest.rest.now ≡ 0 = search rules in
     let gives = drives-gives c.args.script.now c.loop-rest.rest.now done.0 c.loop-rest.world done.1 in
     let all = drives-all c.args.script.now c.loop-rest.rest.now done.0 c.loop-rest.world done.1 (empty c.loop-rest.rest.now end) in
-    writes-all (driven_by c.args.script.now) _ _ _ (length done.0) c.loop-rest.waiting.items (driven start.tpm done.0) c.requires gives done.2 c.finish-2.result
+    writes-all (driven_by c.args.script.now) _ _ _ (length done.0) c.loop-rest.waiting.items (driven start.tpm done.0) c.requires gives done.2 c.finish.result
     (refl, rw (← all) gives)
-    (rw c.deref-2.ensures.value at c.finish-2.ensures.writes)
+    (rw c.deref.ensures.value at c.finish.ensures.writes)
