@@ -12,8 +12,6 @@ mod driver;
 mod fault;
 mod registers;
 mod sizes;
-#[cfg(test)]
-mod tests;
 
 pub use bus::Bus;
 pub use driver::Driver;

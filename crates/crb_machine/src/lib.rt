@@ -15,8 +15,6 @@ mod held;
 mod laws;
 mod parts;
 mod phases;
-#[cfg(test)]
-mod tests;
 
 pub use device::{Device, NotYet};
 pub use laws::held_devices_go_on;

@@ -8,8 +8,6 @@
 mod job;
 mod plain;
 mod port;
-#[cfg(test)]
-mod tests;
 
 pub use job::{Answer, Job, Outcome, Pull, Stage, Standing};
 pub use plain::PlainPort;

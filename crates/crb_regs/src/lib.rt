@@ -18,6 +18,3 @@ pub use registers::{
     CTRL_CANCEL, CTRL_REQ, CTRL_START, CTRL_STS, DATA_BUFFER, LOC_CTRL, LOC_STATE, LOC_STS, Regs,
     byte_at,
 };
-
-#[cfg(test)]
-mod tests;

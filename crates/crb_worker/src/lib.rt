@@ -21,8 +21,6 @@
 pub mod laws;
 mod progress;
 mod receiving;
-#[cfg(test)]
-mod tests;
 mod worker;
 
 pub use progress::{Progress, Step};

@@ -33,8 +33,6 @@ mod client;
 mod fault;
 mod pieces;
 mod profile;
-#[cfg(test)]
-mod tests;
 mod whole;
 mod wires;
 

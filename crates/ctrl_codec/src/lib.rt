@@ -49,6 +49,3 @@ pub use reply_reader::{FedReply, ReplyReader};
 pub use request::{Request, RequestFault};
 pub use request_reader::{FedRequest, RequestReader};
 pub use writing::{write_reply, write_request};
-
-#[cfg(test)]
-mod tests;

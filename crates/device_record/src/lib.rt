@@ -28,6 +28,3 @@ mod writing;
 
 pub use format::RECORD_ROOM;
 pub use record::{load_record, write_record};
-
-#[cfg(test)]
-mod tests;

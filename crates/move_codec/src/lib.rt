@@ -23,8 +23,6 @@ mod message;
 mod names;
 mod outline;
 mod reader;
-#[cfg(test)]
-mod tests;
 mod writing;
 
 pub use format::LARGEST_PIECE;

@@ -39,6 +39,3 @@ mod writing;
 pub use reading::read_stream;
 pub use walk::wanted;
 pub use writing::write_stream;
-
-#[cfg(test)]
-mod tests;

@@ -32,6 +32,3 @@ pub use format::LARGEST_BLOB;
 pub use gather::Gather;
 pub use pieces::piece;
 pub use words::{BlobFault, Piece};
-
-#[cfg(test)]
-mod tests;

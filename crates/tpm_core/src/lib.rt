@@ -32,6 +32,3 @@ mod tpm;
 pub use algorithm::SHA256_DIGEST_SIZE;
 pub use parts::{KEPT_PCR_COUNT, PCR_COUNT, SEED_SIZE, SavedParts, TpmParts};
 pub use tpm::Tpm;
-
-#[cfg(test)]
-mod tests;

@@ -11,8 +11,6 @@ ghost use Rattle.vt_base.specs.Buffer.{followed_by_zeros};
 mod cutter;
 pub mod laws;
 mod sizes;
-#[cfg(test)]
-mod tests;
 
 pub use cutter::{Cutter, Took, first_frame, frame_length};
 pub use sizes::{SIZE_FIELD, SIZE_FIELD_LENGTH, is_length, is_well_sized};

@@ -28,6 +28,3 @@ pub mod laws;
 
 pub use desk::{Desk, Heard};
 pub use emulator::Emulator;
-
-#[cfg(test)]
-mod tests;

@@ -15,6 +15,3 @@ pub use drive::{DriveLine, commands_are_read_as_spelled, parse_drive, print_resp
 pub use event::{Event, parse_line};
 pub use parts::first_line;
 pub use reply::{Reply, print_reply};
-
-#[cfg(test)]
-mod tests;

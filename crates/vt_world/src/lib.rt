@@ -27,8 +27,6 @@
 mod blobs;
 mod bus;
 mod saving;
-#[cfg(test)]
-mod tests;
 mod waiting;
 mod wires;
 mod world;

@@ -3,8 +3,8 @@ ghost use Rattle.std.proofs.Math.Nat.{min-le_right};
 ghost use Rattle.std.specs.Prelude.{min, slice_index};
 ghost use Rattle.vt_base.specs.Layout.{Ends, Field};
 
-use super::*;
 use std::test::*;
+use vt_base::*;
 
 #[test]
 fn each_status_has_its_number(rt: HostRuntime) {

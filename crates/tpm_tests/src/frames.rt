@@ -1,8 +1,8 @@
 //! Frames as bytes, and how they are cut.
 
-use super::*;
 use std::process::Abort;
 use std::test::*;
+use tpm_frame::*;
 use vt_base::Buf;
 
 const START: [u8; 12] = [0x80, 1, 0, 0, 0, 12, 0, 0, 1, 0x44, 0, 0];

@@ -1,7 +1,7 @@
 ghost use Rattle.std.specs.Prelude.{◌≡◌, true, false};
 ghost use Rattle.crb_port.specs.Known.{hand_of};
 
-use super::*;
+use crb_machine::*;
 use crb_port::{Answer, Job, Outcome, PlainPort, Port, WorkPort};
 use crb_regs::{Access, Phase};
 use std::alloc::{AllocError, Global};

@@ -2,13 +2,13 @@
 
 ghost use Rattle.std.specs.Prelude.{◌<◌};
 
-use super::laws::{command_in_parts, control_in_parts, steps_are_told_once, three_close};
-use super::*;
 use ctrl_codec::{Out, Request, write_request};
 use std::alloc::Global;
 use std::process::Abort;
 use std::test::*;
 use vt_base::Buf;
+use vt_emulator::laws::{command_in_parts, control_in_parts, steps_are_told_once, three_close};
+use vt_emulator::*;
 
 /// What is done to an emulator, and what comes of it.
 enum Step {

@@ -1,9 +1,9 @@
 //! Values from outside: the tables were made by a program apart, from the table of commands alone.
 
-use super::*;
 use std::alloc::Global;
 use std::process::Abort;
 use std::test::*;
+use tpm_core::*;
 use vt_base::Buf;
 
 /// A start, an extend of register 0 by 32 zeros, and a read of it.

@@ -3,7 +3,7 @@
 ghost use Rattle.std.specs.Prelude.{◌≡◌};
 ghost use Rattle.move_codec.specs.Spelling.{HasPiece};
 
-use super::*;
+use move_codec::*;
 use std::alloc::{AllocError, Global};
 use std::process::Abort;
 use std::test::*;

@@ -1,7 +1,7 @@
 ghost use Rattle.std.specs.Prelude.{◌≡◌, ◌≢◌, true, false, None, IfOk};
 ghost use Rattle.crb_port.specs.Known.{hand_of};
 
-use super::*;
+use crb_port::*;
 use std::alloc::{AllocError, Global};
 use std::test::*;
 use vt_base::Buf;

@@ -3,7 +3,7 @@
 
 ghost use Rattle.std.specs.Prelude.{◌≡◌, IfOk};
 
-use super::*;
+use state_blobs::*;
 use std::alloc::Global;
 use std::process::Abort;
 use std::test::*;

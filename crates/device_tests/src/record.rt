@@ -3,10 +3,10 @@
 
 ghost use Rattle.std.specs.Prelude.{◌≡◌, true, IfOk};
 
-use super::*;
 use crb_machine::Device;
 use crb_port::PlainPort;
 use crb_regs::{Access, Phase};
+use device_record::*;
 use std::alloc::Global;
 use std::process::Abort;
 use std::test::*;

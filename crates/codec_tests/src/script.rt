@@ -1,10 +1,10 @@
 ghost use Rattle.vt_script.specs.Replies.{IsPrintable};
 
-use super::*;
 use move_codec::HostName;
 use std::alloc::{AllocError, Global};
 use std::test::Fail;
 use vt_base::Bytes;
+use vt_script::*;
 
 // Offset, size and value of the access that a line asks for.
 fn access_of(line: &[u8]) -> Option<(u32, u8, Option<u64>)> {

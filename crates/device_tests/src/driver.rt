@@ -1,4 +1,4 @@
-use super::*;
+use crb_driver::*;
 use crb_regs::Access;
 use std::process::Abort;
 use std::test::*;

@@ -1,4 +1,4 @@
-use super::*;
+use crb_regs::*;
 use std::test::Fail;
 
 // The registers of four bytes from offset 0 to the buffer, by those that aren't the same always.

@@ -1,5 +1,5 @@
 //! Requests over prepared wires.
-use super::*;
+use ctrl_client::*;
 use state_blobs::Piece;
 use std::alloc::{AllocError, Global};
 use std::test::*;

@@ -2,10 +2,10 @@
 //! `examples/transcripts`, and the run whose calls on the wires fail in turn is in `examples/check`.
 ghost use Rattle.std.specs.Prelude.{◌≤◌};
 
-use super::*;
 use std::alloc::{AllocError, Global};
 use std::test::*;
 use vt_base::{Malformed, Why};
+use vt_world::*;
 
 // The saved stream of a host on which no line was done.
 const FRESH: [u8; 101] = [

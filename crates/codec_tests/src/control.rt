@@ -5,7 +5,7 @@ ghost use Rattle.ctrl_codec.specs.Commands.{command_at};
 ghost use Rattle.ctrl_codec.specs.Replies.{ReplyHasData};
 ghost use Rattle.ctrl_codec.specs.Requests.{HasData};
 
-use super::*;
+use ctrl_codec::*;
 use std::process::Abort;
 use std::test::*;
 

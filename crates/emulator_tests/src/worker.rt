@@ -3,8 +3,8 @@ ghost use Rattle.std.specs.Prelude.{◌≡◌, None, IfOk};
 ghost use Rattle.crb_port.specs.Known.{hand_of};
 ghost use Rattle.crb_worker.specs.Progress.{number_in_hand};
 
-use super::*;
 use crb_port::{Job, Outcome, PlainPort, Port, WorkPort};
+use crb_worker::*;
 use ctrl_client::Wires;
 use std::alloc::{AllocError, Global};
 use std::test::*;

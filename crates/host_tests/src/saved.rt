@@ -3,11 +3,11 @@
 
 ghost use Rattle.std.specs.Prelude.{◌≡◌, true, IfOk};
 
-use super::*;
 use crb_machine::Device;
 use crb_port::PlainPort;
 use crb_regs::Phase;
 use device_record::{RECORD_ROOM, write_record};
+use saved_stream::*;
 use state_blobs::{LARGEST_BLOB, piece};
 use std::alloc::Global;
 use std::process::Abort;

@@ -1,0 +1,9 @@
+//! Tests of one host: its saved stream and its world.
+//!
+//! They compare with values from outside, and make each public call once. What a clause says isn't tried again here.
+#![tactic(auto)]
+
+#[cfg(test)]
+mod saved;
+#[cfg(test)]
+mod world;

@@ -1,0 +1,11 @@
+//! Tests of the TPM's side: frames, the TPM and its blobs.
+//!
+//! They compare with values from outside, and make each public call once. What a clause says isn't tried again here.
+#![tactic(auto)]
+
+#[cfg(test)]
+mod blobs;
+#[cfg(test)]
+mod frames;
+#[cfg(test)]
+mod tpm;
