@@ -21,9 +21,6 @@ use Rattle.crbsim.proofs.Endings.{writes-told}
 short_script : (input : List ℕ) (from : Resumption input) → IsShort input → 1048576 < length from.script → ⊥
 short_script input from short long = omega (arith, short, long, ap length from.whole ∙ length-append from.stream from.script)
 
-pub short-behind : (input : List ℕ) (from : Resumption input) → IsShort input → IsShort from.script
-short-behind input from short = omega (arith, short, ap length from.whole ∙ length-append from.stream from.script)
-
 -- the end of the lines is an end of the input
 ends_too : (input : List ℕ) (from : Resumption input) (status : Status) (output : List ℕ) → (followed from.base from.script).Ends status output → ResumesTo input status output
 ends_too input from Ok output ends = (from, ends)

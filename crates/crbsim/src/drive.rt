@@ -40,10 +40,12 @@ pub fn drive<K: Sink>(alloc: Global, script: &[u8], sink: &mut K) -> Status
         number += 1;
         let end = drive_line(alloc, number, text, &mut world, &mut waiting, sink);
         if let Some(status) = end {
+            drop(world);
             return status;
         }
         rest = after;
     }
+    drop(world);
     finish(sink, &waiting, &[], Status::Ok)
 }
 

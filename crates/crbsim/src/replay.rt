@@ -46,11 +46,14 @@ pub fn follow<K: Sink>(alloc: Global, first: World, script: &[u8], sink: &mut K)
         let (text, after) = first_line(rest);
         number += 1;
         let end = follow_line(alloc, number, text, &mut world, &mut waiting, sink);
+        // (A host is dropped by a call: dropped in passing, each of its parts is proved once more here.)
         if let Some(status) = end {
+            drop(world);
             return status;
         }
         rest = after;
     }
+    drop(world);
     finish(sink, &waiting, &[], Status::Ok)
 }
 

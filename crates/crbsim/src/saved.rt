@@ -58,7 +58,10 @@ pub fn check<K: Sink>(alloc: Global, input: &[u8], sink: &mut K) -> Status
     ensures write_fault { result ≡ Status.WriteFault → Rose (K.faults sink.old) (K.faults sink.new) }
 {
     match World::load(alloc, input, LARGEST_PIECE as u32) {
-        Ok(Loaded::World(_)) => whole(alloc, input.len(), sink),
+        Ok(Loaded::World(world)) => {
+            drop(world);
+            whole(alloc, input.len(), sink)
+        }
         Ok(Loaded::Bad(fault)) => refused(alloc, &fault, sink),
         Err(_) => Status::Memory,
     }

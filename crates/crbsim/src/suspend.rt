@@ -33,13 +33,16 @@ pub fn suspend<K: Sink>(alloc: Global, script: &[u8], sink: &mut K) -> Status
         let (text, after) = first_line(rest);
         number += 1;
         let Some(line) = plain_line(text) else {
+            drop(world);
             return bad_line(alloc, number, &[], sink);
         };
         world.step(&line);
         rest = after;
     }
     plain_runs_are_one();
-    save(alloc, &mut world, sink)
+    let status = save(alloc, &mut world, sink);
+    drop(world);
+    status
 }
 
 // Writes the saved stream of a host.

@@ -43,8 +43,8 @@ loop-rest-preserved g c =
       later = c.loop-rest.invariant.later;
     }
 
-pub save-requires : goal.save-requires
-save-requires g c =
+pub save-status-requires : goal.save-status-requires
+save-status-requires g c =
     let done = c.loop-rest.invariant.done in
     let laws = c.plain_runs_are_one.ensures in
     (start, done.1, can_save c.args.script.now c.loop-rest.rest.now done.0 done.1 c.loop-rest.world done.2 laws.run laws.unordered laws.working)
@@ -55,6 +55,6 @@ returns-clause-writes g c =
     let laws = c.plain_runs_are_one.ensures in
     let end : length c.loop-rest.rest.now ≡ 0 = search rules in
     let can = can_save c.args.script.now c.loop-rest.rest.now done.0 done.1 c.loop-rest.world done.2 laws.run laws.unordered laws.working in
-    subst (λ (old : Option (List ℕ)). Writes c.save.result (suspended c.args.script.now) old (g.K.Sink.written c.save.new.sink)) c.loop-rest.invariant.kept
-    (suspends-saved c.args.script.now c.loop-rest.rest.now done.0 done.1 c.loop-rest.world c.save.result _ _ done.2 (empty c.loop-rest.rest.now end)
-    (laws.run start done.0 done.1 done.2.plain done.2.same done.2.run) c.requires (c.save.ensures.writes start done.1 can))
+    subst (λ (old : Option (List ℕ)). Writes c.save-status.result (suspended c.args.script.now) old (g.K.Sink.written c.save-status.new.sink)) c.loop-rest.invariant.kept
+    (suspends-saved c.args.script.now c.loop-rest.rest.now done.0 done.1 c.loop-rest.world c.save-status.result _ _ done.2 (empty c.loop-rest.rest.now end)
+    (laws.run start done.0 done.1 done.2.plain done.2.same done.2.run) c.requires (c.save-status.ensures.writes start done.1 can))
