@@ -80,8 +80,13 @@ fn same(a: &Message, b: &Message) -> bool {
     a.to == b.to && a.epoch == b.epoch && bodies
 }
 
-/// Writes the message behind a byte, and reads it whole with a byte behind it, and byte by byte.
-fn both_ways(rt: &impl Abort, alloc: Global, m: &Message, wanted: &[u8]) -> Result<(), AllocError>
+/// Writes the message behind a byte, with a byte behind it.
+fn written(
+    rt: &impl Abort,
+    alloc: Global,
+    m: &Message,
+    wanted: &[u8],
+) -> Result<Vec<u8>, AllocError>
     requires { HasPiece m.now.body }
 {
     let mut text = Vec::new(alloc);
@@ -89,59 +94,114 @@ fn both_ways(rt: &impl Abort, alloc: Global, m: &Message, wanted: &[u8]) -> Resu
     write_message(m, &mut text)?;
     assert_eq!(rt; text.get(1..).unwrap_or(&[]), wanted);
     text.push(0xee)?;
+    Ok(text)
+}
 
+/// Reads the message whole, with a byte behind it.
+fn read_whole(
+    rt: &impl Abort,
+    alloc: Global,
+    m: &Message,
+    text: &[u8],
+    size: usize,
+) -> Result<(), AllocError> {
     let mut reader = Reader::new(alloc)?;
-    let (used, fed) = reader.feed(alloc, text.get(1..).unwrap_or(&[]))?;
-    assert_eq!(rt; used, wanted.len());
+    let (used, fed) = reader.feed(alloc, text)?;
+    assert_eq!(rt; used, size);
     assert!(rt; matches!(&fed, FedMessage::Whole(read) if same(read, m)));
     assert_eq!(rt; reader.pending(), 0);
+    Ok(())
+}
 
+/// Reads one byte, and says whether the message is whole then.
+fn is_read(
+    rt: &impl Abort,
+    alloc: Global,
+    reader: &mut Reader,
+    m: &Message,
+    byte: u8,
+) -> Result<bool, AllocError> {
+    let (used, fed) = reader.feed(alloc, &[byte])?;
+    assert_eq!(rt; used, 1);
+    Ok(match fed {
+        FedMessage::Whole(read) => same(&read, m),
+        FedMessage::More | FedMessage::Bad(_) | FedMessage::Failed => false,
+    })
+}
+
+/// Reads the message byte by byte.
+fn read_singly(
+    rt: &impl Abort,
+    alloc: Global,
+    m: &Message,
+    wanted: &[u8],
+) -> Result<(), AllocError> {
+    let mut reader = Reader::new(alloc)?;
     let mut last = false;
     for (before, byte) in wanted.iter().enumerate() {
         assert_eq!(rt; reader.pending() as usize, before);
-        let (used, fed) = reader.feed(alloc, &[*byte])?;
-        assert_eq!(rt; used, 1);
-        last = match fed {
-            FedMessage::Whole(read) => same(&read, m),
-            FedMessage::More | FedMessage::Bad(_) | FedMessage::Failed => false,
-        };
+        last = is_read(rt, alloc, &mut reader, m, *byte)?;
     }
     assert!(rt; last);
     assert_eq!(rt; reader.pending(), 0);
     Ok(())
 }
 
-fn message(to: HostName, epoch: u64, body: Body) -> Message
-    ensures { result ≡ record { to = to; epoch = epoch; body = body } }
+/// Writes a message, and reads it whole and byte by byte.
+fn both_ways(
+    rt: &impl Abort,
+    alloc: Global,
+    to: HostName,
+    epoch: u64,
+    body: Body,
+    wanted: &[u8],
+) -> Result<(), AllocError>
+    requires { HasPiece body }
 {
-    Message { to, epoch, body }
+    let m = Message { to, epoch, body };
+    let text = written(rt, alloc, &m, wanted)?;
+    read_whole(rt, alloc, &m, text.get(1..).unwrap_or(&[]), wanted.len())?;
+    read_singly(rt, alloc, &m, wanted)
 }
 
 #[test]
 fn a_message_of_each_kind(rt: HostRuntime) -> Result<(), Fail> {
     let alloc = rt.alloc();
-    let totals = [23, 49, 10, 10];
-    let m = message(HostName::B, 1, Body::Offer { totals });
-    both_ways(&rt, alloc, &m, &OFFER)?;
-    let part = Part::Record;
-    let m = message(HostName::A, 1, Body::Need { part, offset: 0 });
-    both_ways(&rt, alloc, &m, &NEED)?;
+    let offer = Body::Offer {
+        totals: [23, 49, 10, 10],
+    };
+    both_ways(&rt, alloc, HostName::B, 1, offer, &OFFER)?;
+    let need = Body::Need {
+        part: Part::Record,
+        offset: 0,
+    };
+    both_ways(&rt, alloc, HostName::A, 1, need, &NEED)?;
+    both_ways(&rt, alloc, HostName::A, 1, Body::Prepared, &PREPARED)?;
+    both_ways(&rt, alloc, HostName::B, 2, Body::Commit, &COMMIT)?;
+    both_ways(&rt, alloc, HostName::B, u64::MAX, Body::Abort, &ABORT)?;
+    let refuse = Body::Refuse {
+        reason: Reason::Totals,
+        value: 1,
+    };
+    both_ways(&rt, alloc, HostName::A, 1, refuse, &REFUSE)?;
+    Ok(())
+}
+
+#[test]
+fn a_piece(rt: HostRuntime) -> Result<(), Fail> {
     let piece = Body::Piece {
         part: Part::Volatile,
         offset: 0x0a0b_0c0d,
-        bytes: Bytes::from_slice(alloc, &[0xaa, 0xbb, 0xcc])?,
+        bytes: Bytes::from_slice(rt.alloc(), &[0xaa, 0xbb, 0xcc])?,
     };
-    let m = message(HostName::B, 0x0102_0304_0506_0708, piece);
-    both_ways(&rt, alloc, &m, &PIECE)?;
-    let m = message(HostName::A, 1, Body::Prepared);
-    both_ways(&rt, alloc, &m, &PREPARED)?;
-    let m = message(HostName::B, 2, Body::Commit);
-    both_ways(&rt, alloc, &m, &COMMIT)?;
-    let m = message(HostName::B, u64::MAX, Body::Abort);
-    both_ways(&rt, alloc, &m, &ABORT)?;
-    let reason = Reason::Totals;
-    let m = message(HostName::A, 1, Body::Refuse { reason, value: 1 });
-    both_ways(&rt, alloc, &m, &REFUSE)?;
+    both_ways(
+        &rt,
+        rt.alloc(),
+        HostName::B,
+        0x0102_0304_0506_0708,
+        piece,
+        &PIECE,
+    )?;
     Ok(())
 }
 
@@ -163,7 +223,7 @@ fn the_longest_message(rt: HostRuntime) -> Result<(), Fail> {
         ],
     )?;
     wanted.extend_from_slice(&bytes)?;
-    both_ways(&rt, alloc, &message(HostName::A, 3, piece), &wanted)?;
+    both_ways(&rt, alloc, HostName::A, 3, piece, &wanted)?;
     Ok(())
 }
 
@@ -279,10 +339,21 @@ fn read(
     Ok((taken, told))
 }
 
+/// Compares the readings of a front with one strange byte behind it, in one piece and in two.
+fn cut_at(rt: &impl Abort, alloc: Global, front: &[u8], strange: u8) -> Result<(), AllocError> {
+    let mut all = Vec::from_slice(alloc, front)?;
+    all.push(strange)?;
+    let wanted = read_slowly(&all);
+    let (_, told) = read(rt, alloc, &all, &[])?;
+    assert_eq!(rt; told, wanted, "{} {strange}", front.len());
+    let (_, told) = read(rt, alloc, front, &[strange])?;
+    assert_eq!(rt; told, wanted, "{} {strange} in two pieces", front.len());
+    Ok(())
+}
+
 /// Each front of each message, with one strange byte behind it.
 #[test]
 fn cut_messages(rt: HostRuntime) -> Result<(), Fail> {
-    let alloc = rt.alloc();
     for whole in [
         OFFER.as_slice(),
         &NEED,
@@ -294,24 +365,31 @@ fn cut_messages(rt: HostRuntime) -> Result<(), Fail> {
     ] {
         for cut in 0..whole.len() + 1 {
             for strange in [0, 1, 2, 3, 7, 8, 0x0f, 0x12, 0xff] {
-                let front = whole.get(..cut).unwrap_or(&[]);
-                let mut all = Vec::from_slice(alloc, front)?;
-                all.push(strange)?;
-                let wanted = read_slowly(&all);
-                let (_, told) = read(&rt, alloc, &all, &[])?;
-                assert_eq!(rt; told, wanted, "{cut} {strange}");
-                let (_, told) = read(&rt, alloc, front, &[strange])?;
-                assert_eq!(rt; told, wanted, "{cut} {strange} in two pieces");
+                cut_at(&rt, rt.alloc(), whole.get(..cut).unwrap_or(&[]), strange)?;
             }
         }
     }
     Ok(())
 }
 
+/// Compares the reading of bytes that are refused at their end, with a byte behind them.
+fn refused_at(
+    rt: &impl Abort,
+    alloc: Global,
+    bytes: &[u8],
+    wanted: Slow,
+) -> Result<(), AllocError> {
+    assert_eq!(rt; read_slowly(bytes), wanted);
+    let mut more = Vec::from_slice(alloc, bytes)?;
+    more.push(0)?;
+    let (used, told) = read(rt, alloc, &more, &[])?;
+    assert_eq!(rt; (used, told), (bytes.len(), wanted));
+    Ok(())
+}
+
 /// Each row of the refusals: the bytes up to the field that is refused, which are those that are taken.
 #[test]
 fn refusals(rt: HostRuntime) -> Result<(), Fail> {
-    let alloc = rt.alloc();
     for (bytes, why, place) in [
         (b"X".as_slice(), Why::Magic, 0),
         (b"CX", Why::Magic, 1),
@@ -358,37 +436,57 @@ fn refusals(rt: HostRuntime) -> Result<(), Fail> {
             24,
         ),
     ] {
-        assert_eq!(rt; read_slowly(bytes), Slow::Bad(why, place));
-        let mut more = Vec::from_slice(alloc, bytes)?;
-        more.push(0)?;
-        let (used, told) = read(&rt, alloc, &more, &[])?;
-        assert_eq!(rt; (used, told), (bytes.len(), Slow::Bad(why, place)));
+        refused_at(&rt, rt.alloc(), bytes, Slow::Bad(why, place))?;
     }
     Ok(())
+}
+
+/// Whether this is the message of `PIECE`.
+fn is_piece(fed: &FedMessage) -> bool {
+    let FedMessage::Whole(read) = fed else {
+        return false;
+    };
+    let Body::Piece {
+        part,
+        offset,
+        bytes,
+    } = &read.body
+    else {
+        return false;
+    };
+    read.to == HostName::B
+        && read.epoch == 0x0102_0304_0506_0708
+        && *part == Part::Volatile
+        && *offset == 0x0a0b_0c0d
+        && bytes.as_slice() == [0xaa, 0xbb, 0xcc].as_slice()
+}
+
+/// Takes the rest of `PIECE`, a second time where memory is wanting.
+fn taken(
+    rt: &impl Abort,
+    alloc: Global,
+    reader: &mut Reader,
+    back: &[u8],
+) -> Result<(usize, FedMessage), AllocError> {
+    match reader.feed(alloc, back) {
+        Ok(fed) => Ok(fed),
+        Err(AllocError) => {
+            assert_eq!(rt; reader.pending(), 20);
+            reader.feed(alloc, back)
+        }
+    }
 }
 
 /// Where the memory of a piece is wanting, the reader stays as it was, and takes the same bytes again.
 #[test]
 fn a_piece_after_want_of_memory(rt: HostRuntime) -> Result<(), Fail> {
-    let piece = Body::Piece {
-        part: Part::Volatile,
-        offset: 0x0a0b_0c0d,
-        bytes: Bytes::from_slice(rt.alloc(), &[0xaa, 0xbb, 0xcc])?,
-    };
-    let m = message(HostName::B, 0x0102_0304_0506_0708, piece);
     let mut reader = Reader::new(rt.alloc())?;
     let (front, back) = PIECE.split_at(20);
     let (_, fed) = reader.feed(rt.alloc(), front)?;
     assert!(rt; matches!(fed, FedMessage::More));
-    let (used, fed) = match reader.feed(rt.alloc(), back) {
-        Ok(fed) => fed,
-        Err(AllocError) => {
-            assert_eq!(rt; reader.pending(), 20);
-            reader.feed(rt.alloc(), back)?
-        }
-    };
+    let (used, fed) = taken(&rt, rt.alloc(), &mut reader, back)?;
     assert_eq!(rt; used, 9);
-    assert!(rt; matches!(&fed, FedMessage::Whole(read) if same(read, &m)));
+    assert!(rt; is_piece(&fed));
     assert_eq!(rt; reader.pending(), 0);
     Ok(())
 }
@@ -396,7 +494,11 @@ fn a_piece_after_want_of_memory(rt: HostRuntime) -> Result<(), Fail> {
 /// Where the memory of the output is wanting, the output stays as it was.
 #[test]
 fn writing_after_want_of_memory(rt: HostRuntime) -> Result<(), Fail> {
-    let m = message(HostName::A, 1, Body::Prepared);
+    let m = Message {
+        to: HostName::A,
+        epoch: 1,
+        body: Body::Prepared,
+    };
     let mut text = Vec::from_slice(rt.alloc(), &[0xee])?;
     if write_message(&m, &mut text).is_err() {
         assert_eq!(rt; text.as_slice(), [0xee].as_slice());

@@ -3,6 +3,7 @@ ghost use Rattle.std.proofs.Math.Nat.{min-le_right};
 ghost use Rattle.std.specs.Prelude.{min, slice_index};
 ghost use Rattle.vt_base.specs.Layout.{Ends, Field};
 
+use std::process::Abort;
 use std::test::*;
 use vt_base::*;
 
@@ -62,13 +63,18 @@ fn a_source_fails_in_mid_stream_and_goes_on(rt: HostRuntime) -> Result<(), Fail>
 fn a_sink_fails_in_mid_stream_and_goes_on(rt: HostRuntime) -> Result<(), Fail> {
     let failing = Vec::from_slice(rt.alloc(), &[2])?;
     let mut sink = MemSink::new(rt.alloc(), 4, failing)?;
+    writes(&rt, &mut sink);
+    assert_eq!(rt; sink.bytes(), [1, 2, 3, 4].as_slice());
+    Ok(())
+}
+
+// Writes into a sink of four bytes whose second write fails.
+fn writes(rt: &impl Abort, sink: &mut MemSink) {
     assert_eq!(rt; sink.write(&[1, 2]), Ok(2));
     assert_eq!(rt; sink.write(&[3]), Err(Failed));
     assert_eq!(rt; sink.write(&[3, 4, 5]), Ok(2));
     assert_eq!(rt; sink.write(&[5]), Err(Failed));
     assert_eq!(rt; sink.write(&[]), Ok(0));
-    assert_eq!(rt; sink.bytes(), [1, 2, 3, 4].as_slice());
-    Ok(())
 }
 
 #[test]
@@ -154,6 +160,11 @@ fn fields_are_read_or_missing(rt: HostRuntime) {
         Ok((0x0102_0304_0506_0708, 1))
     );
     assert_eq!(rt; value_and_left(long_of(&bytes[..2])), Err(Missing(6)));
+}
+
+#[test]
+fn a_field_of_any_length_is_read(rt: HostRuntime) {
+    let bytes = [1, 2, 3, 4, 5, 6, 7, 8, 9];
     match field_of(&bytes, 7) {
         Ok((field, rest)) => {
             assert_eq!(rt; field, [1, 2, 3, 4, 5, 6, 7].as_slice());

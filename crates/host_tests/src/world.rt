@@ -3,8 +3,11 @@
 ghost use Rattle.std.specs.Prelude.{◌≤◌};
 
 use std::alloc::{AllocError, Global};
+use std::process::Abort;
 use std::test::*;
+use tpm_core::SEED_SIZE;
 use vt_base::{Malformed, Why};
+use vt_script::{Event, Reply};
 use vt_world::*;
 
 // The saved stream of a host on which no line was done.
@@ -22,9 +25,28 @@ fn fault_of(alloc: Global, bytes: &[u8], piece: u32) -> Result<Option<Malformed>
     requires most { piece ≤ 4096 }
 {
     match World::load(alloc, bytes, piece)? {
-        Loaded::World(_) => Ok(None),
+        Loaded::World(world) => {
+            drop(world);
+            Ok(None)
+        }
         Loaded::Bad(fault) => Ok(Some(fault)),
     }
+}
+
+// What a host answers to lines that move no command.
+fn answers(rt: &impl Abort, world: &mut World) {
+    assert_eq!(rt; world.step(&Event::Work), Reply::Idle);
+    assert_eq!(rt; world.step(&Event::Ask), Reply::Asked);
+}
+
+#[test]
+fn a_new_world_answers(rt: HostRuntime) -> Result<(), Fail> {
+    for piece in [1, 7, 4096] {
+        let mut world = World::new(rt.alloc(), [0; SEED_SIZE], piece)?;
+        answers(&rt, &mut world);
+        drop(world);
+    }
+    Ok(())
 }
 
 #[test]
