@@ -1,5 +1,5 @@
 -- Bytes that are received one receive after the other.
-use Rattle.std.proofs.Common.{◌≡◌, ◌≢◌, ℕ, ◌+◌, ◌≤◌, List, [], ◌++◌, length, take, drop, Option, Some, None, Result, Ok, Err, refl, sym, ap, ◌∙◌, append-nil, append_assoc}
+use Rattle.std.proofs.Common.{◌≡◌, ◌≢◌, ℕ, ◌+◌, ◌≤◌, List, [], ◌++◌, length, take, drop, Option, Some, None, Result, Ok, Err, sym, ap, ◌∙◌, append_assoc}
 use Rattle.std.specs.Prelude.{option_map, IfOk, IfErr, OnOk}
 use Rattle.std.proofs.Math.Seq.{take-append-add}
 use Rattle.std.proofs.lemmas.List.{length-take-le, take-append-le}
@@ -8,11 +8,6 @@ use Rattle.ctrl_client.specs.declared.fault.ClientFault.{ClientFault}
 use Rattle.ctrl_client.specs.declared.fault.ClientFault.TheVariants.{Link as LinkFault}
 use Rattle.ctrl_client.specs.Pieces.{judged_fields}
 use Rattle.ctrl_client.specs.Came.{Came, fields_in, TellsPiece}
-
--- nothing was received
-pub came_nothing : (before : Option (List ℕ)) → Came [] before before
-came_nothing None = refl
-came_nothing (Some was) = ap Some (sym (append-nil was))
 
 -- bytes and the bytes behind them
 pub came_joins : (first bytes : List ℕ) (before mid after : Option (List ℕ)) → Came first before mid → Came bytes mid after → Came (first ++ bytes) before after

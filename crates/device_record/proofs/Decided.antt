@@ -75,8 +75,3 @@ decided bytes fits = decided_as bytes (judged record_layout bytes) fits refl
 
 pub all_restores : (f : Fields) (bytes : List ℕ) → IsBytes bytes → judged record_layout bytes ≡ Ok (Ok f) → length bytes ≤ 23 + f.count → Restores f bytes
 all_restores f bytes fits is le = whole_told f bytes fits (all_is_told f bytes fits is le)
-
-pub begins_few : (f : Fields) (bytes : List ℕ) → IsBytes bytes → judged record_layout bytes ≡ Ok (Ok f) → f.count ≤ 3968
-begins_few f bytes fits is =
-    let b = begins f bytes fits is in
-    (whole_told f (take (23 + f.count) bytes) (IsBytes-take (23 + f.count) bytes fits) b.spelled).few

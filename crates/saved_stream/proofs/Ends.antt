@@ -1,6 +1,6 @@
 -- Where a part ends, and why it doesn't.
-use Rattle.std.proofs.Common.{◌≡◌, ◌≢◌, ℕ, ◌+◌, ◌-◌, ◌<◌, ◌≤◌, List, [], ◌++◌, length, take, drop, Ok, refl, sym, ap, subst, ◌∙◌, arith, Bool, true, false}
-use Rattle.std.specs.Bool.{OnTrue, OnFalse}
+use Rattle.std.proofs.Common.{◌≡◌, ◌≢◌, ℕ, ◌+◌, ◌-◌, ◌<◌, ◌≤◌, List, [], ◌++◌, length, take, drop, Ok, sym, ap, subst, ◌∙◌, arith, Bool, true, false}
+use Rattle.std.specs.Bool.{OnTrue}
 use Rattle.std.proofs.lemmas.List.{length-take, length-drop, take_all}
 use Rattle.vt_base.specs.Layout.{Spells}
 use Rattle.vt_base.specs.declared.words.Kind.{Kind}
@@ -13,13 +13,12 @@ use Rattle.device_record.specs.Layouts as layouts
 use Rattle.state_blobs.specs.Texts.{IsBlob}
 use Rattle.state_blobs.specs.Blobs.{blob}
 use Rattle.state_blobs.specs.Room.{blob_within}
-use Rattle.state_blobs.specs.Refusals.{IsRefusedFor, IsRefused, IsCut}
+use Rattle.state_blobs.specs.Refusals.{IsRefusedFor, IsRefused}
 use Rattle.saved_stream.specs.declared.part.Part.{Part}
-use Rattle.saved_stream.specs.declared.part.Part.TheVariants.{Record, Blob}
 use Rattle.saved_stream.specs.Parts.{IsWhole, IsPartRefused}
 use Rattle.saved_stream.specs.Refusals.{moved, IsStopped}
 use Rattle.saved_stream.specs.Places.{IsPartAt}
-use Rattle.saved_stream.proofs.Near.{RecordIsTold, record_few, length_within}
+use Rattle.saved_stream.proofs.Near.{length_within}
 
 -- ---- what laws of the parts tell
 
@@ -39,10 +38,6 @@ BlobNotRefused = (kind : Kind) (fault : Malformed) (bytes : List ℕ) → IsBlob
 
 pub blob_few : BlobIsTold → (kind : Kind) (bytes : List ℕ) → IsBlob kind bytes → length bytes ≤ 3991
 blob_few told kind bytes is = let few = length_within (blob kind) 790 (Ok tt) bytes (blob_within kind) (told kind bytes is) in omega arith
-
-pub part_few : RecordIsTold → BlobIsTold → (part : Part) (bytes : List ℕ) → IsWhole part bytes → length bytes ≤ 3991
-part_few record_told blob_told Record bytes (v, is) = record_few record_told bytes v is
-part_few record_told blob_told (Blob kind) bytes is = blob_few blob_told kind bytes is
 
 -- a part of so many bytes, behind those up to a place
 pub part_up_to : (part : Part) (bytes rest : List ℕ) (from count : ℕ) → rest ≡ drop from bytes → from ≤ length bytes → count < length rest → length (take count rest) ≤ 3991 → IsWhole part (take count rest)
@@ -68,12 +63,6 @@ stopped part place inner fault bytes rest same refused other is = record { inner
 
 -- ---- the record
 
--- Where others stand behind a record, the record alone isn't refused.
-pub record_ends : RecordNotRefused → RecordGoesOn → (first second : Malformed) (bytes : List ℕ) → layouts.IsRefused first bytes → first.why ≡ Extra → layouts.IsRefused second (take first.place bytes) → ⊥
-record_ends not_refused goes_on first second bytes refused why again =
-    let on = goes_on first bytes refused why in
-    not_refused on.values second on.is_record.fit (subst (layouts.IsRefused second) on.is_record.spelled again)
-
 -- Others stand behind it.
 pub record_behind : RecordGoesOn → (fault : Malformed) (bytes : List ℕ) → layouts.IsRefused fault bytes → fault.why ≡ Extra → fault.place < length bytes
 record_behind goes_on fault bytes refused why = (goes_on fault bytes refused why).behind
@@ -92,18 +81,6 @@ blob_behind_if kind Cut place bytes refused is = absurd cc
 pub blob_behind : (kind : Kind) (fault : Malformed) (bytes : List ℕ) → IsRefused kind fault bytes → fault.why ≡ Extra → (fault.place < length bytes) × IsBlob kind (take fault.place bytes)
 blob_behind kind fault bytes refused is = blob_behind_if kind fault.why fault.place bytes refused is
 
-blob_near_if : (kind : Kind) (why : Why) (place : ℕ) (bytes : List ℕ) → IsRefusedFor kind why place bytes → why ≢ Extra → place ≤ 9
-blob_near_if kind Magic place bytes refused other = omega (arith, refused.named)
-blob_near_if kind Version place bytes refused other = omega (arith, refused.0)
-blob_near_if kind Length place bytes refused other = omega (arith, refused.0)
-blob_near_if kind Value place bytes refused other = omega (arith, refused.0)
-blob_near_if kind Cut place bytes refused other = absurd refused
-blob_near_if kind Extra place bytes refused other = absurd (other refl)
-
--- what is refused of a blob stands in its header or is its flag
-pub blob_near : (kind : Kind) (fault : Malformed) (bytes : List ℕ) → IsRefused kind fault bytes → fault.why ≢ Extra → fault.place ≤ 9
-blob_near kind fault bytes refused other = blob_near_if kind fault.why fault.place bytes refused other
-
 -- ---- what a gather answers that has nothing yet
 
 pub from_nothing : (P : List ℕ → Type 0) (begun bytes : List ℕ) → begun ≡ [] → P (begun ++ bytes) → P bytes
@@ -113,15 +90,8 @@ on_true : (whole : Bool) (P : Type 0) → whole ≡ true → OnTrue whole P → 
 on_true true P is p = p
 on_true false P is p = absurd cc
 
-on_false : (whole : Bool) (P : Type 0) → whole ≡ false → OnFalse whole P → P
-on_false true P is p = absurd cc
-on_false false P is p = p
-
 pub blob_if : (kind other : Kind) (begun bytes : List ℕ) (whole : Bool) → begun ≡ [] → kind ≡ other → whole ≡ true → OnTrue whole (IsBlob kind (begun ++ bytes)) → IsBlob other bytes
 blob_if kind other begun bytes whole none same is told = subst (λ (k : Kind). IsBlob k bytes) same (from_nothing (IsBlob kind) begun bytes none (on_true whole (IsBlob kind (begun ++ bytes)) is told))
-
-pub cut_if : (kind other : Kind) (begun bytes : List ℕ) (whole : Bool) → begun ≡ [] → kind ≡ other → whole ≡ false → OnFalse whole (IsCut kind (begun ++ bytes)) → IsCut other bytes
-cut_if kind other begun bytes whole none same is told = subst (λ (k : Kind). IsCut k bytes) same (from_nothing (IsCut kind) begun bytes none (on_false whole (IsCut kind (begun ++ bytes)) is told))
 
 pub refused_if : (kind other : Kind) (begun bytes : List ℕ) (fault : Malformed) → begun ≡ [] → kind ≡ other → IsRefused kind fault (begun ++ bytes) → IsRefused other fault bytes
 refused_if kind other begun bytes fault none same told = subst (λ (k : Kind). IsRefused k fault bytes) same (from_nothing (IsRefused kind fault) begun bytes none told)

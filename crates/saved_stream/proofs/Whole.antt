@@ -130,13 +130,6 @@ only_disagree Saved Cut place p v z is_p is_v is_z fault = absurd (fault.3.1 is_
 only_disagree Saved Value place p v z is_p is_v is_z fault = (refl, fault.1)
 only_disagree _ _ place p v z is_p is_v is_z fault = absurd fault
 
--- the fault stands in the blob of the saved state
-pub fault_near : (bytes : List ℕ) (at : Places) → AreAt bytes at → (blame : BlobFault)
-    → IsFault (between bytes at.permanent at.volatile) (between bytes at.volatile at.saved) (between bytes at.saved at.end) blame → blame.fault.place ≤ 3991
-fault_near bytes at a blame fault =
-    let d = (only_disagree blame.kind blame.fault.why blame.fault.place _ _ _ a.permanent.whole a.volatile.whole a.saved.whole fault).1 in
-    omega (arith, d.first.there, length-between bytes at.saved at.end a.saved.order a.saved.within, a.saved.few)
-
 pub refused_value : (bytes : List ℕ) (at : Places) → HasHead bytes → AreAt bytes at → length_field bytes ≡ at.end - 9 → (blame : BlobFault)
     → IsFault (between bytes at.permanent at.volatile) (between bytes at.volatile at.saved) (between bytes at.saved at.end) blame → IsStreamRefused (moved at.saved blame.fault) bytes
 unfolding have_parts

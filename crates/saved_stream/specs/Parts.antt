@@ -5,22 +5,16 @@ use Rattle.vt_base.specs.declared.words.Kind.TheVariants.{Permanent, Volatile, S
 use Rattle.vt_base.specs.declared.words.Why.TheVariants.{Cut}
 use Rattle.vt_base.specs.declared.words.Malformed.{Malformed}
 use Rattle.crb_machine.specs.Values.{DeviceValues}
-use Rattle.device_record.specs.Records.{record_text, IsRecord}
+use Rattle.device_record.specs.Records.{IsRecord}
 use Rattle.device_record.specs.Layouts as layouts
-use Rattle.state_blobs.specs.Texts.{text_of, IsBlob}
+use Rattle.state_blobs.specs.Texts.{IsBlob}
 use Rattle.state_blobs.specs.Refusals.{IsRefused, IsCut}
-use Rattle.crb_history.specs.Base.{Base}
 use Rattle.saved_stream.specs.declared.part.Part.{Part}
 use Rattle.saved_stream.specs.declared.part.Part.TheVariants.{Record, Blob}
 
 -- the parts, in their order
 abbrev pub parts : List Part
 parts = Record ∷ Blob Permanent ∷ Blob Volatile ∷ Blob Saved ∷ []
-
--- how these values are spelled as a part
-abbrev pub part_text : Part → Base → List ℕ
-part_text Record b = record_text b.device
-part_text (Blob kind) b = text_of kind b.tpm
 
 -- The bytes are this part, of some values.
 abbrev pub IsWhole : Part → List ℕ → Type 0

@@ -51,11 +51,6 @@ lines-more script line rest cut =
     let more = parts_some 10 rest in
     ap without_empty_end cut ∙ rw more.2 (without_empty_end-more line more.0 more.1)
 
--- a line that is ended by the end
-pub lines-last : (script : List ℕ) → 0 < length script → parts_of 10 script ≡ script ∷ [] → lines_of script ≡ script ∷ lines_of []
-lines-last [] some cut = absurd (omega arith)
-lines-last (x ∷ xs) some cut = ap without_empty_end cut
-
 -- a name with more words after it
 pub event_of_words-more : (name rest : List ℕ) → event_of_words (name ∷ parts_of 32 rest) ≡ words_event name (parts_of 32 rest)
 event_of_words-more name rest = let more = parts_some 32 rest in rw more.2 refl

@@ -1,5 +1,5 @@
 -- The lines of the guest, and an order, lead a world on.
-use Rattle.std.proofs.Common.{◌≡◌, ℕ, ◌+◌, ◌-◌, ◌≤◌, ◌∷◌, refl, ap, sym, subst, arith, Some, None}
+use Rattle.std.proofs.Common.{◌≡◌, ℕ, ◌+◌, ◌-◌, ◌≤◌, ◌∷◌, refl, sym, subst, None}
 use Rattle.std.specs.Prelude.{Option, IsSome}
 use Rattle.crb_regs.specs.LittleEndian.{number_at}
 use Rattle.crb_regs.specs.Access.{Access}
@@ -13,10 +13,9 @@ use Rattle.crb_history.specs.Event.Event.{Read as Reading, Write as Writing}
 use Rattle.crb_history.specs.Replies.{Transcript, history, order_of, call_count}
 use Rattle.crb_worker.specs.declared.progress.Progress.{Progress}
 use Rattle.ctrl_client.specs.Link.{Link}
-use Rattle.vt_script.specs.declared.event.Event.TheVariants.{Access as AccessLine, Fail}
+use Rattle.vt_script.specs.declared.event.Event.TheVariants.{Access as AccessLine}
 use Rattle.vt_script.specs.declared.reply.Reply.TheVariants as replied
-use Rattle.move_codec.specs.declared.names.HostName.{HostName}
-use Rattle.vt_world.specs.Follows.{Stands, WorldState, Follows, Steps}
+use Rattle.vt_world.specs.Follows.{Stands, Follows, Steps}
 use Rattle.vt_world.proofs.Guests.{write-stands, read-stands, read-shows}
 use Rattle.vt_world.proofs.Orders.{due-same}
 
@@ -48,18 +47,5 @@ read-steps b t d e progress l due a value follows fits none is shown = record {
     fit = follows.fit;
     stands = subst (λ (x : DeviceState). Stands b (Reading a value ∷ history b t) x progress l) (sym is) (read-stands b (history b t) (plain_device d) progress l a value follows.stands);
     due = due-same (order_of t) (call_count b t) due follows.due;
-  };
-}
-
--- an order takes the place of the one that stood
-pub fail-steps : (b : Base) (t : Transcript) (w : WorldState) (host : HostName) (call : ℕ)
-    → Follows b t w → Steps b t (Fail host call) replied.Accepted (record w { due = Some (call - 1) })
-fail-steps b t w host call follows = record {
-  answers = refl;
-  legal = λ legal. legal;
-  follows = record {
-    fit = follows.fit;
-    stands = follows.stands;
-    due = (omega arith, ap Some (omega arith));
   };
 }

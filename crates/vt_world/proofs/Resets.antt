@@ -13,7 +13,6 @@ use Rattle.crb_machine.specs.State.Slot.{Home, Queued, Claimed as ClaimedSlot, A
 use Rattle.crb_machine.specs.Steps.{collected, reset_regs, reset_at, reset_of, reset_reply, reset_reply_at, after_reset, after_reset_at, failed, fresh_state}
 use Rattle.crb_machine.specs.declared.parts.DeviceParts.{DeviceParts}
 use Rattle.crb_machine.specs.declared.device.NotYet.{NotYet}
-use Rattle.crb_port.specs.Known.{is_nothing}
 use Rattle.crb_port.specs.declared.job.Standing.{Standing}
 use Rattle.crb_port.specs.declared.job.Standing.TheVariants as standing
 use Rattle.tpm_core.specs.Answers.{powered_on}
@@ -147,28 +146,6 @@ done_where b p d e progress placed is done =
     }
 
 -- ---- the lines that change nothing
-
--- a job is claimed
-pub not_yet-steps : (b : Base) (t : Transcript) (d e : DeviceParts Standing) (progress : Progress) (l : Link) (due : Option ℕ) (not_yet : NotYet)
-    → Follows b t (record { device = d; progress = progress; link = l; due = due })
-    → plain_device e ≡ after_reset (plain_device d) → reset_reply (plain_device d) ≡ Err not_yet
-    → Steps b t ResetLine replied.NotYet (record { device = e; progress = progress; link = l; due = due })
-not_yet-steps b t d e progress l due not_yet follows is early =
-    let p : History = history b t in
-    let claimed : (plain_device d).slot ≡ ClaimedSlot = claimed_where (plain_device d).slot (plain_device d).number not_yet early in
-    let raw : collected (plain_device d) ≡ plain_device d = rw claimed refl in
-    let busy : IsBusy b p = busy_where b p (collected (plain_device d)).slot progress (ap (λ (x : DeviceState). x.slot) raw ∙ claimed) follows.stands.job in
-    let stays : plain_device e ≡ plain_device d = is ∙ ap (λ (s : Slot). after_reset_at s (plain_device d)) claimed in
-    let lives : is_lost (phase_of b p) ≡ false = rw busy.executing refl in
-    record {
-      answers = rw (lives, busy.busy) refl;
-      legal = λ legal. legal;
-      follows = record {
-        fit = follows.fit;
-        stands = subst (λ (x : DeviceState). Stands b p x progress l) (sym stays) follows.stands;
-        due = due-same (order_of t) (call_count b t) due follows.due;
-      };
-    }
 
 pub stands_collected : (b : Base) (p : History) (d : DeviceState) (progress : Progress) (l : Link) → Stands b p d progress l → Stands b p (collected d) progress l
 stands_collected b p d progress l s = record { device = rw (collected-collected d) s.device; job = rw (collected-collected d) s.job; quiet = s.quiet; link = s.link }
@@ -336,23 +313,10 @@ home_held None (standing.Waiting job) bytes is = cc
 home_held None (standing.Claimed number) bytes is = cc
 home_held None (standing.Answered answer) bytes is = cc
 
--- after a reset that was done the port is free
-pub free_after : (b : Base) (t : Transcript) (d e : DeviceParts Standing) (progress : Progress) (l : Link) (due : Option ℕ)
-    → Follows b t (record { device = d; progress = progress; link = l; due = due })
-    → plain_device e ≡ after_reset (plain_device d) → reset_reply (plain_device d) ≡ Ok tt → e.regs.phase ≢ Lost
-    → is_nothing e.port ≡ is_some e.home → is_nothing e.port ≡ true
-free_after b t d e progress l due follows is done working sound =
-    let ready : IsReady b (history b t) (plain_device d) (plain_device e) progress = ready_where b (history b t) (plain_device d) (plain_device e) progress l follows.stands is done working in
-    sound ∙ home_held e.home e.port (zeros 3968) (ap (λ (x : DeviceState). x.slot) ready.device)
-
 -- a reset that isn't refused is done
 pub done_by : (r : Result (Unit {0}) NotYet) → is_err r ≡ false → r ≡ Ok tt
 done_by (Ok tt) none = refl
 done_by (Err not_yet) none = cc
-
-pub refused_by : (r : Result (Unit {0}) NotYet) → is_err r ≡ true → (not_yet : NotYet) × (r ≡ Err not_yet)
-refused_by (Ok tt) some = cc
-refused_by (Err not_yet) some = (not_yet, refl)
 
 -- ---- a new world
 

@@ -1,5 +1,5 @@
 -- What is saved of a world, and what a world that was made again has.
-use Rattle.std.proofs.Common.{◌≡◌, ℕ, ◌≤◌, Bool, true, false, List, [], ◌++◌, Option, Some, None, Result, Ok, Err, refl, sym, ap, subst, ◌∙◌, arith, lit≤}
+use Rattle.std.proofs.Common.{◌≡◌, ℕ, ◌≤◌, Bool, true, false, List, [], ◌++◌, Option, Some, None, Result, Ok, Err, refl, sym, ap, ◌∙◌, arith, lit≤}
 use Rattle.std.specs.Prelude.{◌≢◌, slice_index, if◌then◌else◌, OnOk}
 use Rattle.std.proofs.lemmas.List.{take_all}
 use Rattle.crb_regs.specs.Registers.{is_executing}
@@ -103,16 +103,6 @@ follows-on b t d e progress l m due due' follows is link_is due_is = record {
   fit = follows.fit;
   stands = rw link_is (stands-on b (history b t) (plain_device d) (plain_device e) progress l follows.stands is);
   due = rw due_is follows.due;
-}
-
--- or it is as it was
-pub follows-still : (b : Base) (t : Transcript) (d e : DeviceParts Standing) (progress : Progress) (l : Link) (due : Option ℕ)
-    → Follows b t (record { device = d; progress = progress; link = l; due = due }) → plain_device e ≡ plain_device d
-    → Follows b t (record { device = e; progress = progress; link = l; due = due })
-follows-still b t d e progress l due follows is = record {
-  fit = follows.fit;
-  stands = subst (λ (x : DeviceState). Stands b (history b t) x progress l) (sym is) follows.stands;
-  due = follows.due;
 }
 
 -- a job is claimed
