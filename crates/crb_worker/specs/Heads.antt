@@ -1,15 +1,11 @@
 -- The headers of responses, and the response to a command that was cancelled (TPM 2.0 Library, part 1, the header of
 -- commands and responses; the bounds of the size are our own).
-use Rattle.std.specs.Prelude.{◌==◌, Bool, ◌&&◌, ◌||◌, nat_le, ℕ, List}
+use Rattle.std.specs.Prelude.{Bool, ◌&&◌, nat_le, ℕ, List}
 use Rattle.std.specs.Str.{bytes_eq}
 use Rattle.std.specs.Int.{w16}
-use Rattle.tpm_frame.specs.declared.TheConstants.{NO_SESSIONS, SESSIONS, RSP_COMMAND, CANCELED, HEADER_SIZE, LARGEST_FRAME}
-use Rattle.tpm_frame.specs.Frame.{number_at, short}
+use Rattle.tpm_frame.specs.declared.TheConstants.{CANCELED, HEADER_SIZE, LARGEST_FRAME}
+use Rattle.tpm_frame.specs.Frame.{number_at, short, is_response_tag}
 use Rattle.tpm_frame.specs.Sizes.{named_size}
-
--- the tag of a response
-abbrev pub is_response_tag : ℕ → Bool
-is_response_tag tag = tag == NO_SESSIONS || tag == SESSIONS || tag == RSP_COMMAND
 
 -- a response can have so many bytes
 abbrev pub is_response_size : ℕ → Bool

@@ -24,21 +24,21 @@ pub fn behind_magic(bytes: &[u8], magic: [u8; 4]) -> Judged<&[u8]>
     ensures refused { IfOk result (λ r. IfErr r (λ fault. marks_at magic 0 bytes.now ≡ Ok (Err fault))) }
     ensures short { IfErr result (λ lack. marks_at magic 0 bytes.now ≡ Err lack) }
 {
-    let [m, a, g, c] = magic;
-    let (first, rest) = byte_of(bytes)?;
-    if first != m {
+    let [first, second, third, fourth] = magic;
+    let (byte, rest) = byte_of(bytes)?;
+    if byte != first {
         return refused(Why::Magic, 0);
     }
-    let (second, rest) = byte_of(rest)?;
-    if second != a {
+    let (byte, rest) = byte_of(rest)?;
+    if byte != second {
         return refused(Why::Magic, 1);
     }
-    let (third, rest) = byte_of(rest)?;
-    if third != g {
+    let (byte, rest) = byte_of(rest)?;
+    if byte != third {
         return refused(Why::Magic, 2);
     }
-    let (fourth, rest) = byte_of(rest)?;
-    if fourth != c {
+    let (byte, rest) = byte_of(rest)?;
+    if byte != fourth {
         return refused(Why::Magic, 3);
     }
     Ok(Ok(rest))

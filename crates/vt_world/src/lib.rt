@@ -17,6 +17,10 @@
 //! }
 //! ```
 //!
+//! [`World::save`] appends all that a world is to bytes, unless the worker has a command in hand, and leaves it as it was;
+//! [`World::load`] makes a world of such bytes that goes on where the saved one stood, or says why they are none. The
+//! layout is that of [`saved_stream`].
+//!
 //! A world is a [`crb_driver::Bus`] too, so that a driver can do whole commands on it; the worker takes a step after each
 //! read of START then.
 //!
