@@ -6,7 +6,7 @@ ghost use Rattle.ctrl_codec.specs.Replies.{ReplyHasData};
 ghost use Rattle.ctrl_codec.specs.Requests.{HasData};
 
 use ctrl_codec::*;
-use std::process::Abort;
+use std::alloc::{AllocError, Global};
 use std::test::*;
 
 /// The volatile state of a TPM that isn't started, as it is sent.
@@ -37,174 +37,151 @@ const BAD_PARAMETER: [u8; 16] = [0, 0, 0, 3, 0, 0, 0, 0, 0, 0, 0, 0, 0, 0, 0, 0]
 /// The first 16 bytes of a SET_STATEBLOB of the permanent state with 4096 bytes of data.
 const SET_PERMANENT: [u8; 16] = [0, 0, 0, 0x0D, 0, 0, 0, 0, 0, 0, 0, 1, 0, 0, 0x10, 0];
 
-/// Feeds the bytes one by one: no request is whole before the last, and with it this one.
-fn fed_singly(rt: &impl Abort, reader: &mut RequestReader, bytes: &[u8], wanted: FedRequest) {
-    for i in 0..bytes.len() {
-        let wanted = if i + 1 == bytes.len() {
-            wanted
-        } else {
-            FedRequest::More
-        };
-        assert_eq!(rt; reader.feed(&[bytes[i]]), (1, wanted));
+/// Whether the bytes, which come one by one, are this with the last of them and no request before.
+fn is_fed_singly(reader: &mut RequestReader, bytes: &[u8], wanted: FedRequest) -> bool {
+    for (before, byte) in bytes.iter().enumerate() {
+        let is_last = before == bytes.len().saturating_sub(1);
+        let wanted = if is_last { wanted } else { FedRequest::More };
+        if reader.feed(&[*byte]) != (1, wanted) {
+            return false;
+        }
     }
+    true
 }
 
-/// The request is written as these bytes, and read from them whole and byte by byte.
-fn is_request(rt: &impl Abort, reader: &mut RequestReader, q: Request, tail: &[u8], bytes: &[u8])
+/// Whether the request is written as these bytes, and read from them whole and byte by byte.
+fn is_request(reader: &mut RequestReader, q: Request, tail: &[u8], bytes: &[u8]) -> bool
     requires { HasData q tail.now }
 {
     let mut out = Out::new();
     write_request(&q, tail, &mut out);
-    assert_eq!(rt; out.bytes(), bytes);
-    assert_eq!(rt; reader.feed(bytes), (bytes.len(), FedRequest::Whole(q)));
-    assert_eq!(rt; reader.data(), tail);
-    fed_singly(rt, reader, bytes, FedRequest::Whole(q));
-    assert_eq!(rt; reader.data(), tail);
+    out.bytes() == bytes
+        && reader.feed(bytes) == (bytes.len(), FedRequest::Whole(q))
+        && reader.data() == tail
+        && is_fed_singly(reader, bytes, FedRequest::Whole(q))
+        && reader.data() == tail
 }
 
-#[test]
-fn requests_both_ways(rt: HostRuntime) -> Result<(), Fail> {
-    let mut reader = RequestReader::new(rt.alloc())?;
-    is_request(
-        &rt,
-        &mut reader,
-        Request::GetCapability,
-        &[],
-        &GET_CAPABILITY,
-    );
-    is_request(&rt, &mut reader, Request::Init { flags: 0 }, &[], &INIT);
-    is_request(
-        &rt,
-        &mut reader,
-        Request::SetBufferSize { size: 0xF80 },
-        &[],
-        &SET_BUFFERSIZE,
-    );
+/// Whether each request without data is read and written so.
+fn are_requests(reader: &mut RequestReader) -> [bool; 6] {
     let volatile = Request::GetStateBlob {
         flags: 0,
         kind: 2,
         offset: 0,
     };
-    is_request(&rt, &mut reader, volatile, &[], &GET_VOLATILE);
     let unknown = Request::GetStateBlob {
         flags: 0,
         kind: 4,
         offset: 0,
     };
-    is_request(&rt, &mut reader, unknown, &[], &GET_TYPE_4);
+    let buffer = Request::SetBufferSize { size: 0xF80 };
     let locality = Request::SetLocality { locality: 3 };
-    is_request(&rt, &mut reader, locality, &[], &[0, 0, 0, 5, 3, 0, 0, 0]);
+    [
+        is_request(reader, Request::GetCapability, &[], &GET_CAPABILITY),
+        is_request(reader, Request::Init { flags: 0 }, &[], &INIT),
+        is_request(reader, buffer, &[], &SET_BUFFERSIZE),
+        is_request(reader, volatile, &[], &GET_VOLATILE),
+        is_request(reader, unknown, &[], &GET_TYPE_4),
+        is_request(reader, locality, &[], &[0, 0, 0, 5, 3, 0, 0, 0]),
+    ]
+}
+
+#[test]
+fn requests_both_ways(rt: HostRuntime) -> Result<(), Fail> {
+    let mut reader = RequestReader::new(rt.alloc())?;
+    assert_eq!(rt; are_requests(&mut reader), [true; 6]);
     Ok(())
 }
 
-/// The ignored bytes may be any, and a code outside the profile is refused.
+/// Whether bytes that are ignored may be any, and a code outside the profile is refused.
+fn ignores_and_refuses(reader: &mut RequestReader) -> bool {
+    let locality = Request::SetLocality { locality: 3 };
+    let refused = reader.feed(&[0, 0, 0, 5, 3, 0xFF, 1, 2]) == (8, FedRequest::Whole(locality))
+        && reader.feed(&[0, 0, 0, 0x63, 0]) == (4, FedRequest::BadCode(0x63))
+        && reader.feed(&GET_CAPABILITY) == (0, FedRequest::Failed);
+    reader.clear();
+    refused && is_fed_singly(reader, &[0, 0, 0, 0x63], FedRequest::BadCode(0x63))
+}
+
 #[test]
 fn ignored_and_refused(rt: HostRuntime) -> Result<(), Fail> {
     let mut reader = RequestReader::new(rt.alloc())?;
-    let locality = Request::SetLocality { locality: 3 };
-    assert_eq!(rt;
-        reader.feed(&[0, 0, 0, 5, 3, 0xFF, 1, 2]),
-        (8, FedRequest::Whole(locality))
-    );
-    assert_eq!(rt;
-        reader.feed(&[0, 0, 0, 0x63, 0]),
-        (4, FedRequest::BadCode(0x63))
-    );
-    assert_eq!(rt; reader.feed(&GET_CAPABILITY), (0, FedRequest::Failed));
-    reader.clear();
-    fed_singly(
-        &rt,
-        &mut reader,
-        &[0, 0, 0, 0x63],
-        FedRequest::BadCode(0x63),
-    );
+    assert!(rt; ignores_and_refuses(&mut reader));
     Ok(())
 }
 
-/// The reply is written as these bytes, and read from them whole and byte by byte.
-fn is_reply(rt: &impl Abort, code: u32, r: Reply, tail: &[u8], bytes: &[u8])
+/// Whether the bytes, which come one by one, are this reply with the last of them and none before.
+fn is_reply_singly(reader: &mut ReplyReader, code: u32, r: Reply, bytes: &[u8]) -> bool
+    requires profile { IsSome (command_at code) }
+{
+    reader.begin(code);
+    for (before, byte) in bytes.iter().enumerate() {
+        let is_last = before == bytes.len().saturating_sub(1);
+        match reader.feed(&[*byte]) {
+            (1, FedReply::More) if !is_last => {}
+            (1, FedReply::Whole(read)) => return is_last && read == r,
+            _ => return false,
+        }
+    }
+    false
+}
+
+/// Whether the reply is written as these bytes, and read from them whole and byte by byte.
+fn is_reply(code: u32, r: Reply, tail: &[u8], bytes: &[u8]) -> bool
     requires profile { IsSome (command_at code) }
     requires data { ReplyHasData r tail.now }
 {
     let mut out = Out::new();
     write_reply(&r, tail, &mut out);
-    assert_eq!(rt; out.bytes(), bytes);
     let mut reader = ReplyReader::new();
     reader.begin(code);
-    assert_eq!(rt; reader.feed(bytes), (bytes.len(), FedReply::Whole(r)));
-    assert_eq!(rt; reader.data(), tail);
-    reader.begin(code);
-    for i in 0..bytes.len() {
-        let (used, answer) = reader.feed(&[bytes[i]]);
-        assert_eq!(rt; used, 1);
-        let FedReply::More = answer else {
-            assert_eq!(rt; answer, FedReply::Whole(r));
-            assert_eq!(rt; i + 1, bytes.len());
-            break;
-        };
-        assert!(rt; i + 1 < bytes.len());
-    }
-    assert_eq!(rt; reader.data(), tail);
+    out.bytes() == bytes
+        && reader.feed(bytes) == (bytes.len(), FedReply::Whole(r))
+        && reader.data() == tail
+        && is_reply_singly(&mut reader, code, r, bytes)
+        && reader.data() == tail
 }
 
-#[test]
-fn replies_both_ways(rt: HostRuntime) {
-    is_reply(
-        &rt,
-        1,
-        Reply::Capability { value: 0x2FEF },
-        &[],
-        &CAPABILITY,
-    );
-    is_reply(&rt, 2, Reply::Result { result: 0 }, &[], &SUCCESS);
+/// Whether each reply is read and written so.
+fn are_replies() -> [bool; 7] {
     let buffer = Reply::Buffer {
         result: 0,
         size: 0xF80,
         least: 0x400,
         greatest: 0x1000,
     };
-    is_reply(&rt, 0x11, buffer, &[], &BUFFER);
-    is_reply(
-        &rt,
-        4,
-        Reply::Established { result: 0, bit: 1 },
-        &[],
-        &[0, 0, 0, 0, 1, 0, 0, 0],
-    );
-    is_reply(
-        &rt,
-        15,
-        Reply::Config {
-            result: 0,
-            flags: 0,
-        },
-        &[],
-        &[0, 0, 0, 0, 0, 0, 0, 0],
-    );
-}
-
-#[test]
-fn blobs_both_ways(rt: HostRuntime) {
+    let established = Reply::Established { result: 0, bit: 1 };
+    let config = Reply::Config {
+        result: 0,
+        flags: 0,
+    };
     let volatile = Reply::Blob {
         result: 0,
         flags: 0,
         total: 10,
         length: 10,
     };
-    is_reply(&rt, 0x0C, volatile, &NOT_STARTED, &VOLATILE);
     let refused = Reply::Blob {
         result: 3,
         flags: 0,
         total: 0,
         length: 0,
     };
-    is_reply(
-        &rt,
-        Command::GetStateBlob.code(),
-        refused,
-        &[],
-        &BAD_PARAMETER,
-    );
+    let code = Command::GetStateBlob.code();
+    [
+        is_reply(1, Reply::Capability { value: 0x2FEF }, &[], &CAPABILITY),
+        is_reply(2, Reply::Result { result: 0 }, &[], &SUCCESS),
+        is_reply(0x11, buffer, &[], &BUFFER),
+        is_reply(4, established, &[], &[0, 0, 0, 0, 1, 0, 0, 0]),
+        is_reply(15, config, &[], &[0, 0, 0, 0, 0, 0, 0, 0]),
+        is_reply(code, volatile, &NOT_STARTED, &VOLATILE),
+        is_reply(code, refused, &[], &BAD_PARAMETER),
+    ]
+}
+
+#[test]
+fn replies_both_ways(rt: HostRuntime) {
+    assert_eq!(rt; are_replies(), [true; 7]);
 }
 
 /// The number in the four bytes at a place, if they are there.
@@ -295,131 +272,186 @@ fn reply_answered(answer: FedReply) -> Option<End> {
 
 const STRANGE: u8 = 0xFF;
 
+/// The first bytes of a code outside the profile.
+const UNKNOWN: [u8; 4] = [0, 0, 0, 0x63];
+
+/// Requests that are cut at each place.
+const REQUESTS: [&[u8]; 7] = [
+    &GET_CAPABILITY,
+    &INIT,
+    &SET_BUFFERSIZE,
+    &GET_VOLATILE,
+    &GET_TYPE_4,
+    &SET_PERMANENT,
+    &UNKNOWN,
+];
+
+/// How many bytes a reader takes of a front and a strange byte behind it, and how the request ends.
+fn request_read(reader: &mut RequestReader, front: &[u8]) -> (usize, Option<End>) {
+    reader.clear();
+    match reader.feed(front) {
+        (taken, FedRequest::More) => {
+            let (more, answer) = reader.feed(&[STRANGE]);
+            (taken.saturating_add(more), request_answered(answer))
+        }
+        (taken, answer) => (taken, request_answered(answer)),
+    }
+}
+
+/// How many bytes the first front has that is read otherwise than by the table.
+fn wrong_request(
+    alloc: Global,
+    reader: &mut RequestReader,
+    whole: &[u8],
+) -> Result<Option<usize>, AllocError> {
+    for n in 0..whole.len() + 1 {
+        let front = whole.get(..n).unwrap_or(&[]);
+        let mut bytes = Vec::from_slice(alloc, front)?;
+        bytes.push(STRANGE)?;
+        if request_read(reader, front) != slowly(&bytes, None) {
+            return Ok(Some(n));
+        }
+    }
+    Ok(None)
+}
+
 #[test]
 fn cut_requests_and_a_strange_byte(rt: HostRuntime) -> Result<(), Fail> {
     let mut reader = RequestReader::new(rt.alloc())?;
-    for whole in [
-        GET_CAPABILITY.as_slice(),
-        &INIT,
-        &SET_BUFFERSIZE,
-        &GET_VOLATILE,
-        &GET_TYPE_4,
-        &SET_PERMANENT,
-        &[0, 0, 0, 0x63],
-    ] {
-        for n in 0..whole.len() + 1 {
-            let mut bytes = Vec::from_slice(rt.alloc(), &whole[..n])?;
-            bytes.push(STRANGE)?;
-            let (used, end) = slowly(&bytes, None);
-            reader.clear();
-            let (taken, answer) = reader.feed(&whole[..n]);
-            if answer == FedRequest::More {
-                assert_eq!(rt; taken, n);
-                let (more, answer) = reader.feed(&[STRANGE]);
-                assert_eq!(rt; taken + more, used);
-                assert_eq!(rt; request_answered(answer), end);
-            } else {
-                assert_eq!(rt; taken, used);
-                assert_eq!(rt; request_answered(answer), end);
-            }
-        }
+    for whole in REQUESTS {
+        assert_eq!(rt; wrong_request(rt.alloc(), &mut reader, whole)?, None);
     }
     Ok(())
+}
+
+/// The fixed bytes of a reply with 4096 bytes of data.
+const LARGEST: [u8; 16] = [0, 0, 0, 0, 0, 0, 0, 0, 0, 0, 0x10, 0, 0, 0, 0x10, 0];
+
+/// Replies that are cut at each place.
+const REPLIES: [(Command, &[u8]); 8] = [
+    (Command::GetCapability, &CAPABILITY),
+    (Command::Init, &SUCCESS),
+    (Command::GetEstablished, &[0, 0, 0, 0, 0, 0, 0, 0]),
+    (Command::SetBufferSize, &BUFFER),
+    (Command::GetStateBlob, &VOLATILE),
+    (Command::GetStateBlob, &BAD_PARAMETER),
+    (Command::GetStateBlob, &LARGEST),
+    (Command::GetConfig, &CAPABILITY),
+];
+
+/// How many bytes a reader takes of a front and a strange byte behind it, and how the reply ends.
+fn reply_read(command: Command, front: &[u8]) -> (usize, Option<End>) {
+    let mut reader = ReplyReader::new();
+    reader.begin(command.code());
+    match reader.feed(front) {
+        (taken, FedReply::More) => {
+            let (more, answer) = reader.feed(&[STRANGE]);
+            (taken.saturating_add(more), reply_answered(answer))
+        }
+        (taken, answer) => (taken, reply_answered(answer)),
+    }
+}
+
+/// How many bytes the first front has that is read otherwise than by the table.
+fn wrong_reply(alloc: Global, command: Command, whole: &[u8]) -> Result<Option<usize>, AllocError> {
+    for n in 0..whole.len() + 1 {
+        let front = whole.get(..n).unwrap_or(&[]);
+        let mut bytes = Vec::from_slice(alloc, front)?;
+        bytes.push(STRANGE)?;
+        if reply_read(command, front) != slowly(&bytes, Some(command.code())) {
+            return Ok(Some(n));
+        }
+    }
+    Ok(None)
 }
 
 #[test]
 fn cut_replies_and_a_strange_byte(rt: HostRuntime) -> Result<(), Fail> {
-    let mut reader = ReplyReader::new();
-    for (command, whole) in [
-        (Command::GetCapability, CAPABILITY.as_slice()),
-        (Command::Init, &SUCCESS),
-        (Command::GetEstablished, &[0, 0, 0, 0, 0, 0, 0, 0]),
-        (Command::SetBufferSize, &BUFFER),
-        (Command::GetStateBlob, &VOLATILE),
-        (Command::GetStateBlob, &BAD_PARAMETER),
-        (
-            Command::GetStateBlob,
-            &[0, 0, 0, 0, 0, 0, 0, 0, 0, 0, 0x10, 0, 0, 0, 0x10, 0],
-        ),
-        (Command::GetConfig, &CAPABILITY),
-    ] {
-        for n in 0..whole.len() + 1 {
-            let mut bytes = Vec::from_slice(rt.alloc(), &whole[..n])?;
-            bytes.push(STRANGE)?;
-            let (used, end) = slowly(&bytes, Some(command.code()));
-            reader.begin(command.code());
-            let (taken, answer) = reader.feed(&whole[..n]);
-            if let FedReply::More = answer {
-                assert_eq!(rt; taken, n);
-                let (more, answer) = reader.feed(&[STRANGE]);
-                assert_eq!(rt; taken + more, used);
-                assert_eq!(rt; reply_answered(answer), end);
-            } else {
-                assert_eq!(rt; taken, used);
-                assert_eq!(rt; reply_answered(answer), end);
-            }
-        }
+    for (command, whole) in REPLIES {
+        assert_eq!(rt; wrong_reply(rt.alloc(), command, whole)?, None);
     }
     Ok(())
 }
 
-#[test]
-fn bytes_that_have_to_be_zero(rt: HostRuntime) {
-    for (reply, place) in [
-        ([0, 0, 0, 0, 0, 1, 0, 0], 5),
-        ([0, 0, 0, 0, 1, 0, 1, 0], 6),
-        ([0, 0, 0, 0, 0, 0, 0, 1], 7),
-        ([0, 0, 0, 9, 0, 0, 1, 1], 6),
-    ] {
-        let mut reader = ReplyReader::new();
-        reader.begin(4);
-        let (used, answer) = reader.feed(&reply);
-        let FedReply::BadValue(found) = answer else {
-            panic!(rt; "{answer:?}");
-        };
-        assert_eq!(rt; found, place);
-        assert_eq!(rt; used, place as usize + 1);
-        assert_eq!(rt; reader.feed(&reply), (0, FedReply::Failed));
-        reader.begin(15);
-        assert_eq!(rt; reader.feed(&SUCCESS), (4, FedReply::More));
-    }
+/// Replies to GET_TPMESTABLISHED whose last three bytes aren't zeros, and the place of the first that isn't.
+const NOT_ZERO: [([u8; 8], u32); 4] = [
+    ([0, 0, 0, 0, 0, 1, 0, 0], 5),
+    ([0, 0, 0, 0, 1, 0, 1, 0], 6),
+    ([0, 0, 0, 0, 0, 0, 0, 1], 7),
+    ([0, 0, 0, 9, 0, 0, 1, 1], 6),
+];
+
+/// Whether the reply is refused at that place, and the reader takes nothing more before it begins anew.
+fn is_refused_at(reply: &[u8], place: u32) -> bool {
+    let mut reader = ReplyReader::new();
+    reader.begin(4);
+    let refused = reader.feed(reply) == (place as usize + 1, FedReply::BadValue(place))
+        && reader.feed(reply) == (0, FedReply::Failed);
+    reader.begin(15);
+    refused && reader.feed(&SUCCESS) == (4, FedReply::More)
 }
 
 #[test]
-fn data_of_any_length(rt: HostRuntime) -> Result<(), Fail> {
-    let mut reader = RequestReader::new(rt.alloc())?;
-    let mut tail = Vec::new(rt.alloc());
-    for i in 0..4096_u32 {
-        tail.push((i % 251) as u8)?;
+fn bytes_that_have_to_be_zero(rt: HostRuntime) {
+    for (reply, place) in NOT_ZERO {
+        assert!(rt; is_refused_at(&reply, place), "{place}");
     }
-    let mut bytes = Vec::from_slice(rt.alloc(), &SET_PERMANENT)?;
-    bytes.extend_from_slice(&tail)?;
-    let tail = tail.as_slice();
-    assert!(rt; tail.len() == 4096);
+}
+
+/// Whether the pieces, one after another, are this with the last of them and nothing before.
+fn is_fed_in_pieces(
+    reader: &mut RequestReader,
+    bytes: &[u8],
+    size: usize,
+    whole: FedRequest,
+) -> bool
+    requires { 0 < size }
+{
+    let mut last = FedRequest::More;
+    for piece in bytes.chunks(size) {
+        if last != FedRequest::More {
+            return false;
+        }
+        let (used, answer) = reader.feed(piece);
+        if used != piece.len() {
+            return false;
+        }
+        last = answer;
+    }
+    last == whole
+}
+
+/// The most data, whose bytes tell their places.
+fn numbered() -> [u8; 4096] {
+    let mut data = [0; 4096];
+    for (place, byte) in data.iter_mut().enumerate() {
+        *byte = (place % 251) as u8;
+    }
+    data
+}
+
+/// Whether a request with the most data goes both ways, and one with a byte more is refused.
+fn is_largest(reader: &mut RequestReader) -> bool {
+    let tail = numbered();
+    let mut bytes = [0; 4112];
+    bytes[..16].copy_from_slice(&SET_PERMANENT);
+    bytes[16..].copy_from_slice(&tail);
     let q = Request::SetStateBlob {
         flags: 0,
         kind: 1,
         length: 4096,
     };
-    let whole = FedRequest::Whole(q);
-    let mut out = Out::new();
-    write_request(&q, tail, &mut out);
-    assert_eq!(rt; out.bytes(), bytes.as_slice());
-
-    assert_eq!(rt; reader.feed(&bytes), (4112, whole));
-    assert_eq!(rt; reader.data(), tail);
-    let mut last = FedRequest::More;
-    for piece in bytes.chunks(1000) {
-        assert_eq!(rt; last, FedRequest::More);
-        let (used, answer) = reader.feed(piece);
-        assert_eq!(rt; used, piece.len());
-        last = answer;
-    }
-    assert_eq!(rt; last, whole);
-    assert_eq!(rt; reader.data(), tail);
-
     let mut longer = SET_PERMANENT;
     longer[15] = 1;
-    assert_eq!(rt; reader.feed(&longer), (16, FedRequest::BadLength(4097)));
+    is_request(reader, q, &tail, &bytes)
+        && is_fed_in_pieces(reader, &bytes, 1000, FedRequest::Whole(q))
+        && reader.data() == tail.as_slice()
+        && reader.feed(&longer) == (16, FedRequest::BadLength(4097))
+}
+
+#[test]
+fn data_of_any_length(rt: HostRuntime) -> Result<(), Fail> {
+    let mut reader = RequestReader::new(rt.alloc())?;
+    assert!(rt; is_largest(&mut reader));
     Ok(())
 }

@@ -1,5 +1,6 @@
 ghost use Rattle.vt_script.specs.Replies.{IsPrintable};
 
+use crb_regs::Access;
 use move_codec::HostName;
 use std::alloc::{AllocError, Global};
 use std::test::Fail;
@@ -14,30 +15,32 @@ fn access_of(line: &[u8]) -> Option<(u32, u8, Option<u64>)> {
     Some((access.offset(), access.size(), access.write()))
 }
 
+// A line, and the offset, size and value of its access.
+const ACCESSES: [(&[u8], (u32, u8, Option<u64>)); 15] = [
+    (b"r 0 4", (0x0, 4, None)),
+    (b"r 30 4", (0x30, 4, None)),
+    (b"r 68 8", (0x68, 8, None)),
+    (b"r ffc 4", (0xffc, 4, None)),
+    (b"r FfF 1", (0xfff, 1, None)),
+    (b"r 000 2", (0, 2, None)),
+    (b"w 8 4 1", (8, 4, Some(1))),
+    (b"w 84 4 c00", (0x84, 4, Some(0xc00))),
+    (b"w 88 4 4401", (0x88, 4, Some(0x4401))),
+    (b"w 80 1 fF", (0x80, 1, Some(0xff))),
+    (b"w 80 1 00", (0x80, 1, Some(0))),
+    (
+        b"w ff8 8 0123456789aBcDeF",
+        (0xff8, 8, Some(0x0123_4567_89ab_cdef)),
+    ),
+    // At the place of CANCEL.
+    (b"w 48 4 1", (0x48, 4, Some(1))),
+    (b"w 48 1 0", (0x48, 1, Some(0))),
+    (b"w 48 4 2", (0x48, 4, Some(2))),
+];
+
 #[test]
 fn accesses(rt: HostRuntime) {
-    let lines = [
-        (b"r 0 4".as_slice(), (0x0, 4, None)),
-        (b"r 30 4".as_slice(), (0x30, 4, None)),
-        (b"r 68 8".as_slice(), (0x68, 8, None)),
-        (b"r ffc 4".as_slice(), (0xffc, 4, None)),
-        (b"r FfF 1".as_slice(), (0xfff, 1, None)),
-        (b"r 000 2".as_slice(), (0, 2, None)),
-        (b"w 8 4 1".as_slice(), (8, 4, Some(1))),
-        (b"w 84 4 c00".as_slice(), (0x84, 4, Some(0xc00))),
-        (b"w 88 4 4401".as_slice(), (0x88, 4, Some(0x4401))),
-        (b"w 80 1 fF".as_slice(), (0x80, 1, Some(0xff))),
-        (b"w 80 1 00".as_slice(), (0x80, 1, Some(0))),
-        (
-            b"w ff8 8 0123456789aBcDeF".as_slice(),
-            (0xff8, 8, Some(0x0123_4567_89ab_cdef)),
-        ),
-        // At the place of CANCEL.
-        (b"w 48 4 1".as_slice(), (0x48, 4, Some(1))),
-        (b"w 48 1 0".as_slice(), (0x48, 1, Some(0))),
-        (b"w 48 4 2".as_slice(), (0x48, 4, Some(2))),
-    ];
-    for (line, wanted) in lines {
+    for (line, wanted) in ACCESSES {
         assert!(rt; access_of(line) == Some(wanted), "at {line:?}");
     }
 }
@@ -57,101 +60,111 @@ fn order_of(line: &[u8]) -> Option<(HostName, u32)> {
     Some((host, call))
 }
 
+// A line, and the number of the call that is to fail.
+const ORDERS: [(&[u8], u32); 4] = [
+    (b"fail a 1", 1),
+    (b"fail a 10", 10),
+    (b"fail a 9999", 9_999),
+    (b"fail a 65535", 65_535),
+];
+
 #[test]
 fn orders(rt: HostRuntime) {
-    for (line, call) in [
-        (b"fail a 1".as_slice(), 1),
-        (b"fail a 10".as_slice(), 10),
-        (b"fail a 9999".as_slice(), 9_999),
-        (b"fail a 65535".as_slice(), 65_535),
-    ] {
+    for (line, call) in ORDERS {
         assert!(rt; order_of(line) == Some((HostName::A, call)), "at {line:?}");
     }
 }
 
+// Lines that are none of the grammar.
+const NO_EVENTS: [&[u8]; 55] = [
+    b"",
+    b" ",
+    b"work ",
+    b" work",
+    b"work 1",
+    b"Work",
+    b"work\r",
+    b"ask ",
+    b"Ask",
+    b"fail",
+    b"fail a",
+    b"fail a ",
+    b"fail a 0",
+    b"fail a 01",
+    b"fail a 65536",
+    b"fail a 100000",
+    b"fail a a",
+    b"fail a -1",
+    b"fail a 1 ",
+    b"fail a 1 1",
+    b"fail  a 1",
+    b"fail b 1",
+    b"fail A 1",
+    b"reset ",
+    b" reset",
+    b"reset 1",
+    b"Reset",
+    b"RESET",
+    b"r",
+    b"r 0",
+    b"r 0 ",
+    b"r 0 4 ",
+    b"r 0 4 1",
+    b"r  0 4",
+    b"r\t0 4",
+    b"R 0 4",
+    b"r 0000 1",
+    b"r  1",
+    b"r g 1",
+    b"r 0x1 1",
+    b"r +1 1",
+    b"r 0 3",
+    b"r 0 04",
+    b"r 0 16",
+    b"r ffd 4",
+    b"r fff 2",
+    b"w 8 4",
+    b"w 8 4 ",
+    b"w 8 4 1 ",
+    b"w 8 4 1 1",
+    b"w 80 1 100",
+    b"w 80 1 001",
+    b"w 80 8 00123456789abcdef",
+    b"w ffd 4 1",
+    // A drive line is none of these.
+    b"cmd 80010000000a00000144",
+];
+
 #[test]
 fn not_in_the_grammar(rt: HostRuntime) {
-    let lines = [
-        b"".as_slice(),
-        b" ".as_slice(),
-        b"work ".as_slice(),
-        b" work".as_slice(),
-        b"work 1".as_slice(),
-        b"Work".as_slice(),
-        b"work\r".as_slice(),
-        b"ask ".as_slice(),
-        b"Ask".as_slice(),
-        b"fail".as_slice(),
-        b"fail a".as_slice(),
-        b"fail a ".as_slice(),
-        b"fail a 0".as_slice(),
-        b"fail a 01".as_slice(),
-        b"fail a 65536".as_slice(),
-        b"fail a 100000".as_slice(),
-        b"fail a a".as_slice(),
-        b"fail a -1".as_slice(),
-        b"fail a 1 ".as_slice(),
-        b"fail a 1 1".as_slice(),
-        b"fail  a 1".as_slice(),
-        b"fail b 1".as_slice(),
-        b"fail A 1".as_slice(),
-        b"reset ".as_slice(),
-        b" reset".as_slice(),
-        b"reset 1".as_slice(),
-        b"Reset".as_slice(),
-        b"RESET".as_slice(),
-        b"r".as_slice(),
-        b"r 0".as_slice(),
-        b"r 0 ".as_slice(),
-        b"r 0 4 ".as_slice(),
-        b"r 0 4 1".as_slice(),
-        b"r  0 4".as_slice(),
-        b"r\t0 4".as_slice(),
-        b"R 0 4".as_slice(),
-        b"r 0000 1".as_slice(),
-        b"r  1".as_slice(),
-        b"r g 1".as_slice(),
-        b"r 0x1 1".as_slice(),
-        b"r +1 1".as_slice(),
-        b"r 0 3".as_slice(),
-        b"r 0 04".as_slice(),
-        b"r 0 16".as_slice(),
-        b"r ffd 4".as_slice(),
-        b"r fff 2".as_slice(),
-        b"w 8 4".as_slice(),
-        b"w 8 4 ".as_slice(),
-        b"w 8 4 1 ".as_slice(),
-        b"w 8 4 1 1".as_slice(),
-        b"w 80 1 100".as_slice(),
-        b"w 80 1 001".as_slice(),
-        b"w 80 8 00123456789abcdef".as_slice(),
-        b"w ffd 4 1".as_slice(),
-        // A drive line is none of these.
-        b"cmd 80010000000a00000144".as_slice(),
-    ];
-    for line in lines {
+    for line in NO_EVENTS {
         assert!(rt; parse_line(line).is_none(), "at {line:?}");
     }
 }
 
-#[test]
-fn lines(rt: HostRuntime) {
-    let mut rest = b"r 0 4\n\n work\nlast".as_slice();
-    for wanted in [
-        b"r 0 4".as_slice(),
-        b"".as_slice(),
-        b" work".as_slice(),
-        b"last".as_slice(),
-    ] {
-        assert!(rt; !rest.is_empty());
+// The lines of a text whose last line has no end.
+const LINES: [&[u8]; 4] = [b"r 0 4", b"", b" work", b"last"];
+
+// Whether these are the lines of a text, one after another.
+fn has_lines(text: &[u8], lines: &[&[u8]]) -> bool {
+    let mut rest = text;
+    for wanted in lines {
+        if rest.is_empty() {
+            return false;
+        }
         let (line, after) = first_line(rest);
-        assert_eq!(rt; line, wanted);
+        if line != *wanted {
+            return false;
+        }
         rest = after;
     }
-    assert!(rt; rest.is_empty());
-    let (line, after) = first_line(b"work\n");
-    assert_eq!(rt; line, b"work".as_slice());
-    assert!(rt; after.is_empty());
+    rest.is_empty()
+}
+
+#[test]
+fn lines(rt: HostRuntime) {
+    assert!(rt; has_lines(b"r 0 4\n\n work\nlast", &LINES));
+    assert!(rt; has_lines(b"work\n", &[b"work"]));
 }
 
 fn prints(alloc: Global, reply: Reply, text: &[u8]) -> Result<bool, AllocError>
@@ -162,94 +175,65 @@ fn prints(alloc: Global, reply: Reply, text: &[u8]) -> Result<bool, AllocError>
     Ok(printed.as_slice() == text)
 }
 
+// A value, how many bytes were read of it, and its text.
+const VALUES: [(u64, u8, &[u8]); 6] = [
+    (0x81, 4, b"00000081\n"),
+    (0xfed4_0080, 8, b"00000000fed40080\n"),
+    (0xffff_ffff, 4, b"ffffffff\n"),
+    (0x9a, 1, b"9a\n"),
+    (0xbe0, 2, b"0be0\n"),
+    (0x0123_4567_89ab_cdef, 8, b"0123456789abcdef\n"),
+];
+
+// Whether a value that an access can have is printed so.
+fn prints_value(alloc: Global, value: u64, size: u8, text: &[u8]) -> Result<bool, AllocError> {
+    if Access::new(0, size, Some(value)).is_none() {
+        return Ok(false);
+    }
+    prints(alloc, Reply::Value { value, size }, text)
+}
+
 #[test]
 fn values(rt: HostRuntime) -> Result<(), Fail> {
-    let alloc = rt.alloc();
-    assert!(rt;
-        prints(
-            alloc,
-            Reply::Value {
-                value: 0x81,
-                size: 4
-            },
-            b"00000081\n"
-        )?
-    );
-    assert!(rt;
-        prints(
-            alloc,
-            Reply::Value {
-                value: 0xfed4_0080,
-                size: 8
-            },
-            b"00000000fed40080\n"
-        )?
-    );
-    assert!(rt;
-        prints(
-            alloc,
-            Reply::Value {
-                value: 0xffff_ffff,
-                size: 4
-            },
-            b"ffffffff\n"
-        )?
-    );
-    assert!(rt;
-        prints(
-            alloc,
-            Reply::Value {
-                value: 0x9a,
-                size: 1
-            },
-            b"9a\n"
-        )?
-    );
-    assert!(rt;
-        prints(
-            alloc,
-            Reply::Value {
-                value: 0xbe0,
-                size: 2
-            },
-            b"0be0\n"
-        )?
-    );
-    assert!(rt;
-        prints(
-            alloc,
-            Reply::Value {
-                value: 0x0123_4567_89ab_cdef,
-                size: 8
-            },
-            b"0123456789abcdef\n"
-        )?
-    );
+    for (value, size, text) in VALUES {
+        assert!(rt; prints_value(rt.alloc(), value, size, text)?, "{text:?}");
+    }
     Ok(())
+}
+
+// A reply that is no value, and its text.
+const TEXTS: [(Reply, &[u8]); 13] = [
+    (Reply::Accepted, b"ok\n"),
+    (Reply::Idle, b"idle\n"),
+    (Reply::Claim(1), b"claim 1\n"),
+    (Reply::Sent(10), b"sent 10\n"),
+    (Reply::Exec(0), b"exec 0\n"),
+    (Reply::Done(999_999), b"done 999999\n"),
+    (
+        Reply::Cancelled(u64::MAX),
+        b"cancelled 18446744073709551615\n",
+    ),
+    (Reply::Lost(7), b"lost 7\n"),
+    (Reply::Link, b"link\n"),
+    (Reply::Asked, b"asked\n"),
+    (Reply::FailedDevice, b"failed device\n"),
+    (Reply::NotYet, b"not yet\n"),
+    (Reply::Reset, b"reset\n"),
+];
+
+// Whether a reply that is no value is printed so.
+fn prints_text(alloc: Global, reply: Reply, text: &[u8]) -> Result<bool, AllocError> {
+    match reply {
+        Reply::Value { .. } => Ok(false),
+        _ => prints(alloc, reply, text),
+    }
 }
 
 #[test]
 fn texts(rt: HostRuntime) -> Result<(), Fail> {
-    let alloc = rt.alloc();
-    assert!(rt; prints(alloc, Reply::Accepted, b"ok\n")?);
-    assert!(rt; prints(alloc, Reply::Idle, b"idle\n")?);
-    assert!(rt; prints(alloc, Reply::Claim(1), b"claim 1\n")?);
-    assert!(rt; prints(alloc, Reply::Sent(10), b"sent 10\n")?);
-    assert!(rt; prints(alloc, Reply::Exec(0), b"exec 0\n")?);
-    assert!(rt; prints(alloc, Reply::Done(999_999), b"done 999999\n")?);
-    assert!(rt;
-        prints(
-            alloc,
-            Reply::Cancelled(u64::MAX),
-            b"cancelled 18446744073709551615\n"
-        )?
-    );
-    assert!(rt; prints(alloc, Reply::Lost(7), b"lost 7\n")?);
-    assert!(rt; prints(alloc, Reply::Link, b"link\n")?);
-    assert!(rt; prints(alloc, Reply::Asked, b"asked\n")?);
-    assert!(rt; prints(alloc, Reply::FailedDevice, b"failed device\n")?);
-    assert!(rt; prints(alloc, Reply::NotYet, b"not yet\n")?);
-    assert!(rt; prints(alloc, Reply::Reset, b"reset\n")?);
+    for (reply, text) in TEXTS {
+        assert!(rt; prints_text(rt.alloc(), reply, text)?, "{text:?}");
+    }
     Ok(())
 }
 
@@ -261,26 +245,28 @@ fn command_of(alloc: Global, line: &[u8]) -> Result<Option<Bytes>, AllocError> {
     }
 }
 
+// A line, and its command.
+const COMMANDS: [(&[u8], &[u8]); 3] = [
+    (
+        b"cmd 80010000000c000001440000",
+        b"\x80\x01\x00\x00\x00\x0c\x00\x00\x01\x44\x00\x00",
+    ),
+    // The shortest command, and digits of both cases.
+    (
+        b"cmd 80010000000a0000abCD",
+        b"\x80\x01\x00\x00\x00\x0a\x00\x00\xab\xcd",
+    ),
+    // Only its size is looked at.
+    (
+        b"cmd FFff0000000AFFFFffff",
+        b"\xff\xff\x00\x00\x00\x0a\xff\xff\xff\xff",
+    ),
+];
+
 #[test]
 fn commands(rt: HostRuntime) -> Result<(), Fail> {
     let alloc = rt.alloc();
-    let lines = [
-        (
-            b"cmd 80010000000c000001440000".as_slice(),
-            b"\x80\x01\x00\x00\x00\x0c\x00\x00\x01\x44\x00\x00".as_slice(),
-        ),
-        // The shortest command, and digits of both cases.
-        (
-            b"cmd 80010000000a0000abCD".as_slice(),
-            b"\x80\x01\x00\x00\x00\x0a\x00\x00\xab\xcd".as_slice(),
-        ),
-        // Only its size is looked at.
-        (
-            b"cmd FFff0000000AFFFFffff".as_slice(),
-            b"\xff\xff\x00\x00\x00\x0a\xff\xff\xff\xff".as_slice(),
-        ),
-    ];
-    for (line, wanted) in lines {
+    for (line, wanted) in COMMANDS {
         let command = command_of(alloc, line)?;
         assert!(rt;
             command.is_some_and(|bytes| bytes.as_slice() == wanted),
@@ -290,38 +276,40 @@ fn commands(rt: HostRuntime) -> Result<(), Fail> {
     Ok(())
 }
 
+// Lines that are none of `drive`.
+const NO_COMMANDS: [&[u8]; 23] = [
+    b"",
+    b" ",
+    b"cmd",
+    b"cmd ",
+    b"80010000000a00000144",
+    b"CMD 80010000000a00000144",
+    b"cmd80010000000a00000144",
+    b" cmd 80010000000a00000144",
+    b"cmd  80010000000a00000144",
+    b"cmd\t80010000000a00000144",
+    b"cmd 80010000000a00000144 ",
+    b"cmd 80010000000a00000144\r",
+    b"cmd 80010000000a 00000144",
+    b"cmd 0x80010000000a00000144",
+    b"cmd 8001000000ga00000144",
+    // An odd number of digits.
+    b"cmd 80010000000a0000014",
+    b"cmd 80010000000a000001440",
+    // Nine bytes.
+    b"cmd 800100000009000001",
+    // Another number in the size field: one less, one more, too much by its highest byte, the lowest byte first.
+    b"cmd 80010000000900000144",
+    b"cmd 80010000000b00000144",
+    b"cmd 80010100000a00000144",
+    b"cmd 80010a00000000000144",
+    b"work",
+];
+
 #[test]
 fn no_drive_lines(rt: HostRuntime) -> Result<(), Fail> {
     let alloc = rt.alloc();
-    let lines = [
-        b"".as_slice(),
-        b" ".as_slice(),
-        b"cmd".as_slice(),
-        b"cmd ".as_slice(),
-        b"80010000000a00000144".as_slice(),
-        b"CMD 80010000000a00000144".as_slice(),
-        b"cmd80010000000a00000144".as_slice(),
-        b" cmd 80010000000a00000144".as_slice(),
-        b"cmd  80010000000a00000144".as_slice(),
-        b"cmd\t80010000000a00000144".as_slice(),
-        b"cmd 80010000000a00000144 ".as_slice(),
-        b"cmd 80010000000a00000144\r".as_slice(),
-        b"cmd 80010000000a 00000144".as_slice(),
-        b"cmd 0x80010000000a00000144".as_slice(),
-        b"cmd 8001000000ga00000144".as_slice(),
-        // An odd number of digits.
-        b"cmd 80010000000a0000014".as_slice(),
-        b"cmd 80010000000a000001440".as_slice(),
-        // Nine bytes.
-        b"cmd 800100000009000001".as_slice(),
-        // Another number in the size field: one less, one more, too much by its highest byte, the lowest byte first.
-        b"cmd 80010000000900000144".as_slice(),
-        b"cmd 80010000000b00000144".as_slice(),
-        b"cmd 80010100000a00000144".as_slice(),
-        b"cmd 80010a00000000000144".as_slice(),
-        b"work".as_slice(),
-    ];
-    for line in lines {
+    for line in NO_COMMANDS {
         assert!(rt; command_of(alloc, line)?.is_none(), "at {line:?}");
     }
     Ok(())
@@ -354,21 +342,17 @@ fn long_commands(rt: HostRuntime) -> Result<(), Fail> {
     Ok(())
 }
 
+// Whether three responses are printed one behind another.
+fn prints_responses(alloc: Global, printed: &mut Vec<u8>) -> Result<bool, AllocError> {
+    print_response(alloc, b"\x80\x01\x00\x00\x00\x0a\x00\x00\x01\xef", printed)?;
+    print_response(alloc, b"", printed)?;
+    print_response(alloc, b"\xff", printed)?;
+    Ok(printed.as_slice() == b"80010000000a000001ef\n\nff\n".as_slice())
+}
+
 #[test]
 fn responses(rt: HostRuntime) -> Result<(), Fail> {
-    let alloc = rt.alloc();
-    let mut printed = Vec::new(alloc);
-    print_response(
-        alloc,
-        b"\x80\x01\x00\x00\x00\x0a\x00\x00\x01\xef",
-        &mut printed,
-    )?;
-    assert_eq!(rt; printed.as_slice(), b"80010000000a000001ef\n".as_slice());
-    print_response(alloc, b"", &mut printed)?;
-    print_response(alloc, b"\xff", &mut printed)?;
-    assert_eq!(rt;
-        printed.as_slice(),
-        b"80010000000a000001ef\n\nff\n".as_slice()
-    );
+    let mut printed = Vec::new(rt.alloc());
+    assert!(rt; prints_responses(rt.alloc(), &mut printed)?);
     Ok(())
 }

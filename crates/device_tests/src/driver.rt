@@ -1,6 +1,5 @@
 use crb_driver::*;
 use crb_regs::Access;
-use std::process::Abort;
 use std::test::*;
 
 /// An access that was made: place, size and value.
@@ -124,182 +123,177 @@ const FINISHED: [Made; 17] = [
     Made::Write(0x08, 4, 2),
 ];
 
-/// One whole call: what it is given, what the bus reads, what it answers and what it makes of twelve bytes of 0xEE.
-#[derive(Drop)]
-struct Case<'a> {
-    name: &'a str,
-    command: &'a [u8],
+/// The reads of START where the third shows the end.
+const POLLED: [Made; 3] = [
+    Made::Read(0x4C, 4, 1),
+    Made::Read(0x4C, 4, 0x100),
+    Made::Read(0x4C, 4, 0),
+];
+
+/// Access isn't granted.
+const REFUSED: [Made; 2] = [Made::Write(0x08, 4, 1), Made::Read(0x0C, 4, 0x100)];
+
+/// The interface stays idle.
+const IDLE: [Made; 4] = [
+    Made::Write(0x08, 4, 1),
+    Made::Read(0x0C, 4, 1),
+    Made::Write(0x40, 4, 1),
+    Made::Read(0x44, 4, 0x82),
+];
+
+const BUSY: [Made; 2] = [Made::Read(0x4C, 4, 1), Made::Read(0x4C, 4, 3)];
+
+const LOST: [Made; 2] = [Made::Read(0x4C, 4, 0), Made::Read(0x44, 4, 0x81)];
+
+/// An end without a fault, and the size of the response but for its last byte.
+const SMALL: [Made; 5] = [
+    Made::Read(0x4C, 4, 0),
+    Made::Read(0x44, 4, 0),
+    Made::Read(0x82, 1, 0),
+    Made::Read(0x83, 1, 0),
+    Made::Read(0x84, 1, 0),
+];
+
+const OF_9: [Made; 1] = [Made::Read(0x85, 1, 9)];
+
+const OF_13: [Made; 1] = [Made::Read(0x85, 1, 13)];
+
+/// A response of 0xFFFF_FFFE bytes.
+const HUGE: [Made; 6] = [
+    Made::Read(0x4C, 4, 0),
+    Made::Read(0x44, 4, 0),
+    Made::Read(0x82, 1, 0xFF),
+    Made::Read(0x83, 1, 0xFF),
+    Made::Read(0x84, 1, 0xFF),
+    Made::Read(0x85, 1, 0xFE),
+];
+
+/// One whole call: how often START is read at most, what the bus reads, what it answers, and the accesses.
+#[derive(Clone, Copy)]
+struct Case {
+    name: &'static str,
     polls: u32,
-    script: &'a [u64],
+    script: &'static [u64],
     answer: Result<usize, DriverFault>,
-    made: &'a [&'a [Made]],
-    into: [u8; 12],
+    made: &'static [&'static [Made]],
 }
 
-fn try_case(rt: &impl Abort, case: &Case) {
-    let mut bus = ScriptedBus::new(case.script);
-    let mut into = [0xEE; 12];
-    let answer = Driver::new().call(&mut bus, case.command, &mut into, case.polls);
-    let name = case.name;
-    assert!(rt; answer == case.answer, "the answer of {name}");
-    assert!(rt; bus.has_made(case.made), "the accesses of {name}");
-    assert!(rt; into == case.into, "the bytes of {name}");
-}
-
-#[test]
-fn a_command_is_answered(rt: HostRuntime) {
-    let polled = [
-        Made::Read(0x4C, 4, 1),
-        Made::Read(0x4C, 4, 0x100),
-        Made::Read(0x4C, 4, 0),
-    ];
-    let case = Case {
-        name: "a whole call",
-        command: &STARTUP,
+/// Calls with the start as their command.
+const CALLS: [Case; 9] = [
+    Case {
+        name: "a response",
         polls: 3,
         script: &[
             0x101, 4, 1, 0x100, 0, 2, 0, 0, 0, 0x0A, 0x80, 0x01, 0, 0, 0, 0x0A, 0, 0, 0x01, 0x25,
         ],
         answer: Ok(10),
-        made: &[&STARTED, &polled, &FINISHED],
-        into: [0x80, 0x01, 0, 0, 0, 0x0A, 0, 0, 0x01, 0x25, 0xEE, 0xEE],
-    };
-    try_case(&rt, &case);
+        made: &[&STARTED, &POLLED, &FINISHED],
+    },
+    Case {
+        name: "no access",
+        polls: 3,
+        script: &[0x100],
+        answer: Err(DriverFault::NotGranted(0x100)),
+        made: &[&REFUSED],
+    },
+    Case {
+        name: "idle",
+        polls: 3,
+        script: &[1, 0x82],
+        answer: Err(DriverFault::NotReady(0x82)),
+        made: &[&IDLE],
+    },
+    Case {
+        name: "busy",
+        polls: 2,
+        script: &[0x101, 4, 1, 3, 0],
+        answer: Err(DriverFault::TimedOut(2)),
+        made: &[&STARTED, &BUSY],
+    },
+    Case {
+        name: "no poll",
+        polls: 0,
+        script: &[0x101, 4, 0],
+        answer: Err(DriverFault::TimedOut(0)),
+        made: &[&STARTED],
+    },
+    Case {
+        name: "a lost device",
+        polls: 1,
+        script: &[0x101, 4, 0, 0x81],
+        answer: Err(DriverFault::Fatal(0x81)),
+        made: &[&STARTED, &LOST],
+    },
+    Case {
+        name: "a short response",
+        polls: 1,
+        script: &[0x101, 4, 0, 0, 0, 0, 0, 9],
+        answer: Err(DriverFault::BadResponse(9)),
+        made: &[&STARTED, &SMALL, &OF_9],
+    },
+    Case {
+        name: "a response with no room",
+        polls: 1,
+        script: &[0x101, 4, 0, 0, 0, 0, 0, 13],
+        answer: Err(DriverFault::BadResponse(13)),
+        made: &[&STARTED, &SMALL, &OF_13],
+    },
+    Case {
+        name: "a huge response",
+        polls: 1,
+        script: &[0x101, 4, 0, 0, 0xFF, 0xFF, 0xFF, 0xFE],
+        answer: Err(DriverFault::BadResponse(0xFFFF_FFFE)),
+        made: &[&STARTED, &HUGE],
+    },
+];
+
+/// Twelve bytes that nothing was written to.
+const UNTOUCHED: [u8; 12] = [0xEE; 12];
+
+/// The response, and behind it the bytes that stood there.
+const ANSWERED: [u8; 12] = [0x80, 0x01, 0, 0, 0, 0x0A, 0, 0, 0x01, 0x25, 0xEE, 0xEE];
+
+/// Whether a call goes so.
+fn goes(case: &Case) -> bool {
+    let mut bus = ScriptedBus::new(case.script);
+    let mut into = UNTOUCHED;
+    let answer = Driver::new().call(&mut bus, &STARTUP, &mut into, case.polls);
+    let wanted = if answer.is_ok() { ANSWERED } else { UNTOUCHED };
+    answer == case.answer && bus.has_made(case.made) && into == wanted
 }
 
-// Sends a command that isn't well sized.
-fn try_size(rt: &impl Abort, command: &[u8], length: u32) {
-    let case = Case {
-        name: "a command of another size",
-        command,
-        polls: 3,
-        script: &[],
-        answer: Err(DriverFault::Size(length)),
-        made: &[],
-        into: [0xEE; 12],
-    };
-    try_case(rt, &case);
+#[test]
+fn each_call(rt: HostRuntime) {
+    for case in CALLS {
+        assert!(rt; goes(&case), "{}", case.name);
+    }
+}
+
+/// Commands too short or of another size than their size field names, and how many bytes they have.
+const ILL_SIZED: [(&[u8], u32); 4] = [
+    (&[], 0),
+    (&[0x80, 0x01, 0, 0, 0, 9, 0, 0, 0x01], 9),
+    (&[0x80, 0x01, 0, 0, 0, 0x0D, 0, 0, 0x01, 0x44, 0, 0], 12),
+    (&[0x80, 0x01, 0x0C, 0, 0, 0, 0, 0, 0x01, 0x44, 0, 0], 12),
+];
+
+/// Whether the command isn't sent, and no byte is written.
+fn is_ill_sized(command: &[u8], length: u32) -> bool {
+    let mut bus = ScriptedBus::new(&[]);
+    let mut into = UNTOUCHED;
+    let answer = Driver::new().call(&mut bus, command, &mut into, 3);
+    answer == Err(DriverFault::Size(length)) && bus.has_made(&[]) && into == UNTOUCHED
 }
 
 #[test]
 fn a_command_of_another_size_is_not_sent(rt: HostRuntime) {
-    let nine = [0x80, 0x01, 0, 0, 0, 9, 0, 0, 0x01];
-    let thirteen_named = [0x80, 0x01, 0, 0, 0, 0x0D, 0, 0, 0x01, 0x44, 0, 0];
-    let named_backwards = [0x80, 0x01, 0x0C, 0, 0, 0, 0, 0, 0x01, 0x44, 0, 0];
+    for (command, length) in ILL_SIZED {
+        assert!(rt; is_ill_sized(command, length), "{command:?}");
+    }
     let mut long = [0; 3969];
     long[4] = 0x0F;
     long[5] = 0x81;
-    try_size(&rt, &[], 0);
-    try_size(&rt, &nine, 9);
-    try_size(&rt, &thirteen_named, 12);
-    try_size(&rt, &named_backwards, 12);
-    try_size(&rt, &long, 3969);
-}
-
-// Sends a command to a bus that reads these values.
-fn try_fault(rt: &impl Abort, polls: u32, script: &[u64], fault: DriverFault, made: &[&[Made]]) {
-    let case = Case {
-        name: "a fault",
-        command: &STARTUP,
-        polls,
-        script,
-        answer: Err(fault),
-        made,
-        into: [0xEE; 12],
-    };
-    try_case(rt, &case);
-}
-
-#[test]
-fn a_fault_stops_at_the_read_that_shows_it(rt: HostRuntime) {
-    let refused = [Made::Write(0x08, 4, 1), Made::Read(0x0C, 4, 0x100)];
-    let idle = [
-        Made::Write(0x08, 4, 1),
-        Made::Read(0x0C, 4, 1),
-        Made::Write(0x40, 4, 1),
-        Made::Read(0x44, 4, 0x82),
-    ];
-    let busy = [Made::Read(0x4C, 4, 1), Made::Read(0x4C, 4, 3)];
-    let lost = [Made::Read(0x4C, 4, 0), Made::Read(0x44, 4, 0x81)];
-    try_fault(
-        &rt,
-        3,
-        &[0x100],
-        DriverFault::NotGranted(0x100),
-        &[&refused],
-    );
-    try_fault(&rt, 3, &[1, 0x82], DriverFault::NotReady(0x82), &[&idle]);
-    try_fault(
-        &rt,
-        2,
-        &[0x101, 4, 1, 3, 0],
-        DriverFault::TimedOut(2),
-        &[&STARTED, &busy],
-    );
-    try_fault(
-        &rt,
-        0,
-        &[0x101, 4, 0],
-        DriverFault::TimedOut(0),
-        &[&STARTED],
-    );
-    try_fault(
-        &rt,
-        1,
-        &[0x101, 4, 0, 0x81],
-        DriverFault::Fatal(0x81),
-        &[&STARTED, &lost],
-    );
-}
-
-#[test]
-fn a_response_of_a_bad_length_is_not_read(rt: HostRuntime) {
-    let short = [
-        Made::Read(0x4C, 4, 0),
-        Made::Read(0x44, 4, 0),
-        Made::Read(0x82, 1, 0),
-        Made::Read(0x83, 1, 0),
-        Made::Read(0x84, 1, 0),
-        Made::Read(0x85, 1, 9),
-    ];
-    let no_room = [
-        Made::Read(0x4C, 4, 0),
-        Made::Read(0x44, 4, 0),
-        Made::Read(0x82, 1, 0),
-        Made::Read(0x83, 1, 0),
-        Made::Read(0x84, 1, 0),
-        Made::Read(0x85, 1, 13),
-    ];
-    let huge = [
-        Made::Read(0x4C, 4, 0),
-        Made::Read(0x44, 4, 0),
-        Made::Read(0x82, 1, 0xFF),
-        Made::Read(0x83, 1, 0xFF),
-        Made::Read(0x84, 1, 0xFF),
-        Made::Read(0x85, 1, 0xFE),
-    ];
-    let script = [0x101, 4, 0, 0, 0xFF, 0xFF, 0xFF, 0xFE];
-    try_fault(
-        &rt,
-        1,
-        &[0x101, 4, 0, 0, 0, 0, 0, 9],
-        DriverFault::BadResponse(9),
-        &[&STARTED, &short],
-    );
-    try_fault(
-        &rt,
-        1,
-        &[0x101, 4, 0, 0, 0, 0, 0, 13],
-        DriverFault::BadResponse(13),
-        &[&STARTED, &no_room],
-    );
-    try_fault(
-        &rt,
-        1,
-        &script,
-        DriverFault::BadResponse(0xFFFF_FFFE),
-        &[&STARTED, &huge],
-    );
+    assert!(rt; is_ill_sized(&long, 3969));
 }
 
 #[test]
@@ -310,49 +304,57 @@ fn a_response_longer_than_the_buffer_is_not_read(rt: HostRuntime) {
     assert!(rt; into == [0xEE; 4000]);
 }
 
-#[test]
-fn the_parts_may_be_called_in_turn(rt: HostRuntime) {
+/// The reads of START where the second shows the end.
+const POLLED_TWICE: [Made; 2] = [Made::Read(0x4C, 4, 1), Made::Read(0x4C, 4, 0)];
+
+/// Whether the parts of a call go as the whole call does.
+fn goes_in_parts() -> bool {
     let mut bus = ScriptedBus::new(&[
         0x101, 4, 1, 0, 2, 0, 0, 0, 0x0A, 0x80, 0x01, 0, 0, 0, 0x0A, 0, 0, 0x01, 0x25,
     ]);
     let mut driver = Driver::new();
-    let mut into = [0xEE; 11];
-    assert!(rt; driver.start(&mut bus, &STARTUP) == Ok(()));
-    assert!(rt; bus.has_made(&[&STARTED]));
-    assert!(rt; !driver.poll(&mut bus));
-    assert!(rt; driver.poll(&mut bus));
-    assert!(rt; driver.finish(&mut bus, &mut into) == Ok(10));
-    let polled = [Made::Read(0x4C, 4, 1), Made::Read(0x4C, 4, 0)];
-    assert!(rt; bus.has_made(&[&STARTED, &polled, &FINISHED]));
-    assert_eq!(rt; into, [0x80, 0x01, 0, 0, 0, 0x0A, 0, 0, 0x01, 0x25, 0xEE]);
+    let mut into = UNTOUCHED;
+    driver.start(&mut bus, &STARTUP) == Ok(())
+        && bus.has_made(&[&STARTED])
+        && !driver.poll(&mut bus)
+        && driver.poll(&mut bus)
+        && driver.finish(&mut bus, &mut into) == Ok(10)
+        && bus.has_made(&[&STARTED, &POLLED_TWICE, &FINISHED])
+        && into == ANSWERED
 }
 
 #[test]
+fn the_parts_may_be_called_in_turn(rt: HostRuntime) {
+    assert!(rt; goes_in_parts());
+}
+
+const TEXTS: [(DriverFault, &str); 6] = [
+    (
+        DriverFault::Size(9),
+        "a command of 9 bytes has another size or can't be sent",
+    ),
+    (
+        DriverFault::NotGranted(0x100),
+        "access was not granted: LOC_STS is 0x100",
+    ),
+    (
+        DriverFault::NotReady(2),
+        "the interface is not ready: CTRL_STS is 0x2",
+    ),
+    (DriverFault::TimedOut(7), "no response after 7 polls"),
+    (
+        DriverFault::Fatal(0x81),
+        "the TPM can't be used: CTRL_STS is 0x81",
+    ),
+    (
+        DriverFault::BadResponse(13),
+        "a response of 13 bytes can't be taken",
+    ),
+];
+
+#[test]
 fn each_fault_has_its_text(rt: HostRuntime) -> Result<(), Fail> {
-    let texts = [
-        (
-            DriverFault::Size(9),
-            "a command of 9 bytes has another size or can't be sent",
-        ),
-        (
-            DriverFault::NotGranted(0x100),
-            "access was not granted: LOC_STS is 0x100",
-        ),
-        (
-            DriverFault::NotReady(2),
-            "the interface is not ready: CTRL_STS is 0x2",
-        ),
-        (DriverFault::TimedOut(7), "no response after 7 polls"),
-        (
-            DriverFault::Fatal(0x81),
-            "the TPM can't be used: CTRL_STS is 0x81",
-        ),
-        (
-            DriverFault::BadResponse(13),
-            "a response of 13 bytes can't be taken",
-        ),
-    ];
-    for (fault, text) in texts {
+    for (fault, text) in TEXTS {
         assert_eq!(rt; format!(in rt.alloc(); "{fault}")?.as_str(), text);
     }
     Ok(())

@@ -3,38 +3,41 @@ ghost use Rattle.std.proofs.Math.Nat.{min-le_right};
 ghost use Rattle.std.specs.Prelude.{min, slice_index};
 ghost use Rattle.vt_base.specs.Layout.{Ends, Field};
 
-use std::process::Abort;
+use std::alloc::{AllocError, Global};
 use std::test::*;
 use vt_base::*;
 
 #[test]
 fn each_status_has_its_number(rt: HostRuntime) {
     let numbers = [
-        (Status::Ok, 0),
-        (Status::Usage, 2),
-        (Status::Script, 3),
-        (Status::ReadFault, 4),
-        (Status::WriteFault, 5),
-        (Status::Memory, 6),
-        (Status::Limit, 7),
-        (Status::Refused, 8),
-        (Status::NotYet, 9),
+        Status::Ok.number(),
+        Status::Usage.number(),
+        Status::Script.number(),
+        Status::ReadFault.number(),
+        Status::WriteFault.number(),
+        Status::Memory.number(),
+        Status::Limit.number(),
+        Status::Refused.number(),
+        Status::NotYet.number(),
     ];
-    for (status, number) in numbers {
-        assert_eq!(rt; status.number(), number);
-    }
+    assert_eq!(rt; numbers, [0, 2, 3, 4, 5, 6, 7, 8, 9]);
+}
+
+// Whether a buffer of zeros holds what is put in it, and zeros once it is cleared.
+fn is_written_and_cleared(buf: &mut Buf) -> bool {
+    buf.hold(&[7, 8]);
+    buf.set(BUFFER_LENGTH - 1, 9);
+    let written = buf.bytes().len() == 3968
+        && buf.bytes().starts_with(&[7, 8, 0])
+        && buf.get(3967) == 9;
+    buf.clear();
+    written && buf.get(0) == 0 && buf.get(3967) == 0
 }
 
 #[test]
 fn a_buffer_is_written_and_cleared(rt: HostRuntime) -> Result<(), Fail> {
     let mut buf = Buf::new(rt.alloc())?;
-    buf.hold(&[7, 8]);
-    buf.set(BUFFER_LENGTH - 1, 9);
-    assert_eq!(rt; buf.bytes().len(), 3968);
-    assert_eq!(rt; &buf.bytes()[..3], [7, 8, 0].as_slice());
-    assert_eq!(rt; buf.get(3967), 9);
-    buf.clear();
-    assert_eq!(rt; (buf.get(0), buf.get(3967)), (0, 0));
+    assert!(rt; is_written_and_cleared(&mut buf));
     Ok(())
 }
 
@@ -47,34 +50,50 @@ fn bytes_are_changed_in_place_and_cut(rt: HostRuntime) -> Result<(), Fail> {
     Ok(())
 }
 
+// What a read of three bytes gives, and the bytes then.
+fn read_three(source: &mut MemSource, into: &mut [u8; 3]) -> (Result<usize, Failed>, [u8; 3]) {
+    (source.read(into), *into)
+}
+
+// Four such reads.
+fn reads(source: &mut MemSource) -> [(Result<usize, Failed>, [u8; 3]); 4] {
+    let mut into = [0; 3];
+    let first = read_three(source, &mut into);
+    let second = read_three(source, &mut into);
+    let third = read_three(source, &mut into);
+    [first, second, third, read_three(source, &mut into)]
+}
+
 #[test]
 fn a_source_fails_in_mid_stream_and_goes_on(rt: HostRuntime) -> Result<(), Fail> {
     let bytes = Bytes::from_slice(rt.alloc(), &[1, 2, 3, 4, 5])?;
     let mut source = MemSource::new(bytes, Vec::from_slice(rt.alloc(), &[2])?);
-    let mut into = [0; 3];
-    assert_eq!(rt; (source.read(&mut into), into), (Ok(3), [1, 2, 3]));
-    assert_eq!(rt; (source.read(&mut into), into), (Err(Failed), [1, 2, 3]));
-    assert_eq!(rt; (source.read(&mut into), into), (Ok(2), [4, 5, 3]));
-    assert_eq!(rt; (source.read(&mut into), into), (Ok(0), [4, 5, 3]));
+    let read = [
+        (Ok(3), [1, 2, 3]),
+        (Err(Failed), [1, 2, 3]),
+        (Ok(2), [4, 5, 3]),
+        (Ok(0), [4, 5, 3]),
+    ];
+    assert!(rt; reads(&mut source) == read);
     Ok(())
+}
+
+// What writes give into a sink of four bytes whose second write fails.
+fn writes(sink: &mut MemSink) -> [Result<usize, Failed>; 5] {
+    let first = sink.write(&[1, 2]);
+    let second = sink.write(&[3]);
+    let third = sink.write(&[3, 4, 5]);
+    let fourth = sink.write(&[5]);
+    [first, second, third, fourth, sink.write(&[])]
 }
 
 #[test]
 fn a_sink_fails_in_mid_stream_and_goes_on(rt: HostRuntime) -> Result<(), Fail> {
     let failing = Vec::from_slice(rt.alloc(), &[2])?;
     let mut sink = MemSink::new(rt.alloc(), 4, failing)?;
-    writes(&rt, &mut sink);
-    assert_eq!(rt; sink.bytes(), [1, 2, 3, 4].as_slice());
+    let written = [Ok(2), Err(Failed), Ok(2), Err(Failed), Ok(0)];
+    assert!(rt; writes(&mut sink) == written && sink.bytes() == [1, 2, 3, 4].as_slice());
     Ok(())
-}
-
-// Writes into a sink of four bytes whose second write fails.
-fn writes(rt: &impl Abort, sink: &mut MemSink) {
-    assert_eq!(rt; sink.write(&[1, 2]), Ok(2));
-    assert_eq!(rt; sink.write(&[3]), Err(Failed));
-    assert_eq!(rt; sink.write(&[3, 4, 5]), Ok(2));
-    assert_eq!(rt; sink.write(&[5]), Err(Failed));
-    assert_eq!(rt; sink.write(&[]), Ok(0));
 }
 
 #[test]
@@ -97,24 +116,36 @@ fn told(input: &Input) -> (&str, usize) {
     }
 }
 
+// The bytes of the input, the limit, the read that fails, and what is told; more than a chunk takes a second read.
+const INPUTS: [(usize, usize, u64, (&str, usize)); 7] = [
+    (0, 0, 0, ("whole", 0)),
+    (5, 5, 0, ("whole", 5)),
+    (5, 4, 0, ("too long", 0)),
+    (5000, 5000, 0, ("whole", 5000)),
+    (5000, 4999, 0, ("too long", 0)),
+    (5000, 5000, 2, ("fault", 0)),
+    (5000, 5000, 4, ("whole", 5000)),
+];
+
+// Whether an input of so many bytes is told so.
+fn is_told(
+    alloc: Global,
+    count: usize,
+    limit: usize,
+    fails: u64,
+    wanted: (&str, usize),
+) -> Result<bool, AllocError> {
+    let all = [3; 5000];
+    let bytes = Bytes::from_slice(alloc, all.get(..count).unwrap_or(&[]))?;
+    let mut source = MemSource::new(bytes, Vec::from_slice(alloc, &[fails])?);
+    Ok(told(&read_all(alloc, &mut source, limit)) == wanted)
+}
+
 #[test]
 fn an_input_is_read_to_its_end(rt: HostRuntime) -> Result<(), Fail> {
-    // The bytes of the input, the limit, the read that fails; more than a chunk takes a second read.
-    let cases = [
-        (0, 0, 0, ("whole", 0)),
-        (5, 5, 0, ("whole", 5)),
-        (5, 4, 0, ("too long", 0)),
-        (5000, 5000, 0, ("whole", 5000)),
-        (5000, 4999, 0, ("too long", 0)),
-        (5000, 5000, 2, ("fault", 0)),
-        (5000, 5000, 4, ("whole", 5000)),
-    ];
-    let all = [3u8; 5000];
-    for (len, limit, fails, want) in cases {
-        let bytes = Bytes::from_slice(rt.alloc(), &all[..len])?;
-        let mut source = MemSource::new(bytes, Vec::from_slice(rt.alloc(), &[fails])?);
-        let input = read_all(rt.alloc(), &mut source, limit);
-        assert_eq!(rt; told(&input), want, "{len} bytes, limit {limit}");
+    for (count, limit, fails, wanted) in INPUTS {
+        let told = is_told(rt.alloc(), count, limit, fails, wanted)?;
+        assert!(rt; told, "{count} bytes, limit {limit}");
     }
     Ok(())
 }
@@ -122,25 +153,28 @@ fn an_input_is_read_to_its_end(rt: HostRuntime) -> Result<(), Fail> {
 #[test]
 fn all_bytes_are_written(rt: HostRuntime) -> Result<(), Fail> {
     let mut sink = MemSink::new(rt.alloc(), 3, Vec::new(rt.alloc()))?;
-    assert_eq!(rt; write_all(&mut sink, &[1, 2]), Ok(()));
-    assert_eq!(rt; write_all(&mut sink, &[3, 4]), Err(Failed));
-    assert_eq!(rt; sink.bytes(), [1, 2, 3].as_slice());
+    let written = [write_all(&mut sink, &[1, 2]), write_all(&mut sink, &[3, 4])];
+    assert!(rt; written == [Ok(()), Err(Failed)] && sink.bytes() == [1, 2, 3].as_slice());
     Ok(())
 }
 
-#[test]
-fn adapters_pass_bytes_on(rt: HostRuntime) -> Result<(), Fail> {
-    let bytes = [1, 2, 3];
-    let mut source = StdSource::new(&bytes[..]);
-    let input = read_all(rt.alloc(), &mut source, 3);
-    assert_eq!(rt; told(&input), ("whole", 3));
-    // A writer with room for four bytes takes three, then one of two, and no more.
+// Whether a writer with room for four bytes takes three, then one of two, and no more.
+fn takes_four() -> bool {
     let mut room = [0; 4];
     let mut sink = StdSink::new(&mut room[..]);
-    assert_eq!(rt; write_all(&mut sink, &bytes), Ok(()));
-    assert_eq!(rt; write_all(&mut sink, &[4, 5]), Err(Failed));
-    assert_eq!(rt; room, [1, 2, 3, 4]);
-    Ok(())
+    let written = [
+        write_all(&mut sink, &[1, 2, 3]),
+        write_all(&mut sink, &[4, 5]),
+    ];
+    written == [Ok(()), Err(Failed)] && room == [1, 2, 3, 4]
+}
+
+#[test]
+fn adapters_pass_bytes_on(rt: HostRuntime) {
+    let bytes = [1, 2, 3];
+    let input = read_all(rt.alloc(), &mut StdSource::new(&bytes[..]), 3);
+    assert!(rt; told(&input) == ("whole", 3));
+    assert!(rt; takes_four());
 }
 
 // The value of a field, and how many bytes are left.
@@ -149,29 +183,20 @@ fn value_and_left<T>(read: Result<(T, &[u8]), Missing>) -> Result<(T, usize), Mi
     Ok((value, rest.len()))
 }
 
-#[test]
-fn fields_are_read_or_missing(rt: HostRuntime) {
+// Whether nine bytes are read as fields of each size, and two are too few for the longest.
+fn fields_are_read() -> bool {
     let bytes = [1, 2, 3, 4, 5, 6, 7, 8, 9];
-    assert_eq!(rt; value_and_left(byte_of(&bytes)), Ok((1, 8)));
-    assert_eq!(rt; value_and_left(short_of(&bytes)), Ok((0x0102, 7)));
-    assert_eq!(rt; value_and_left(number_of(&bytes)), Ok((0x0102_0304, 5)));
-    assert_eq!(rt;
-        value_and_left(long_of(&bytes)),
-        Ok((0x0102_0304_0506_0708, 1))
-    );
-    assert_eq!(rt; value_and_left(long_of(&bytes[..2])), Err(Missing(6)));
+    value_and_left(byte_of(&bytes)) == Ok((1, 8))
+        && value_and_left(short_of(&bytes)) == Ok((0x0102, 7))
+        && value_and_left(number_of(&bytes)) == Ok((0x0102_0304, 5))
+        && value_and_left(long_of(&bytes)) == Ok((0x0102_0304_0506_0708, 1))
+        && value_and_left(long_of(&[1, 2])) == Err(Missing(6))
+        && field_of(&bytes, 7) == Ok((&[1, 2, 3, 4, 5, 6, 7], &[8, 9]))
 }
 
 #[test]
-fn a_field_of_any_length_is_read(rt: HostRuntime) {
-    let bytes = [1, 2, 3, 4, 5, 6, 7, 8, 9];
-    match field_of(&bytes, 7) {
-        Ok((field, rest)) => {
-            assert_eq!(rt; field, [1, 2, 3, 4, 5, 6, 7].as_slice());
-            assert_eq!(rt; rest, [8, 9].as_slice());
-        }
-        Err(Missing(count)) => assert_eq!(rt; count, 0),
-    }
+fn fields_are_read_or_missing(rt: HostRuntime) {
+    assert!(rt; fields_are_read());
 }
 
 /// A word: a byte that says how many bytes follow, at most 3 whatever it says.
@@ -194,34 +219,40 @@ impl Grammar for Words {
     ghost within = { λ _. (lit≤ tt, λ count. (min-le_right (slice_index count 0) 3, λ _. tt)) };
 }
 
+// A piece, how many of its bytes are taken, and how the word ends.
+const WORDS: [([u8; 5], usize, Option<u8>); 3] = [
+    ([2, 10, 11, 0, 7], 3, Some(2)),
+    ([0, 7, 12, 13, 14], 1, Some(0)),
+    ([7, 12, 13, 14, 1], 4, Some(7)),
+];
+
 #[test]
 fn a_word_is_read_from_one_piece(rt: HostRuntime) {
-    // A piece, how many of its bytes are taken, and how the word ends.
-    let cases = [
-        ([2, 10, 11, 0, 7], 3, Some(2)),
-        ([0, 7, 12, 13, 14], 1, Some(0)),
-        ([7, 12, 13, 14, 1], 4, Some(7)),
-    ];
-    for (piece, used, end) in cases {
+    for (piece, used, end) in WORDS {
         let mut held = Held::<4>::new();
-        assert_eq!(rt; held.feed(&Words, &piece), (used, end));
+        assert!(rt; held.feed(&Words, &piece) == (used, end), "{used}");
     }
+}
+
+// Whether four bytes are taken one by one, the last as the end of a word, which is forgotten then.
+fn is_fed_singly() -> bool {
+    let mut held = Held::<4>::new();
+    let (1, None) = held.feed(&Words, &[3]) else {
+        return false;
+    };
+    let (1, None) = held.feed(&Words, &[10]) else {
+        return false;
+    };
+    let (1, None) = held.feed(&Words, &[11]) else {
+        return false;
+    };
+    let is_whole = held.feed(&Words, &[12]) == (1, Some(3))
+        && held.as_slice() == [3, 10, 11, 12].as_slice();
+    held.clear();
+    is_whole && held.as_slice().is_empty()
 }
 
 #[test]
 fn a_word_is_read_byte_by_byte(rt: HostRuntime) {
-    let mut held = Held::<4>::new();
-    let (1, None) = held.feed(&Words, &[3]) else {
-        return assert!(rt; false)
-    };
-    let (1, None) = held.feed(&Words, &[10]) else {
-        return assert!(rt; false)
-    };
-    let (1, None) = held.feed(&Words, &[11]) else {
-        return assert!(rt; false)
-    };
-    assert_eq!(rt; held.feed(&Words, &[12]), (1, Some(3)));
-    assert_eq!(rt; held.as_slice(), [3, 10, 11, 12].as_slice());
-    held.clear();
-    assert!(rt; held.as_slice().is_empty());
+    assert!(rt; is_fed_singly());
 }

@@ -191,15 +191,21 @@ fn first_wrong(alloc: Global, scripts: &[&[Step]]) -> Result<Option<(usize, usiz
     Ok(bench.first_wrong(scripts))
 }
 
-// Takes access and starts the command Startup(CLEAR).
-const STARTUP: [Step; 6] = [
-    Write(0x08, 4, 1),
-    Write(0x40, 4, 1),
+const ACCESS: [Step; 1] = [Write(0x08, 4, 1)];
+
+const READY: [Step; 1] = [Write(0x40, 4, 1)];
+
+// Startup(CLEAR), but for the zeros at its end.
+const COMMAND: [Step; 3] = [
     Write(0x80, 4, 0x180),
     Write(0x84, 4, 0xC00),
     Write(0x88, 4, 0x4401),
-    Write(0x4C, 4, 1),
 ];
+
+const START: [Step; 1] = [Write(0x4C, 4, 1)];
+
+// The same bytes, and zeros behind them.
+const COMMAND_BYTES: [u8; 13] = [0x80, 1, 0, 0, 0, 12, 0, 0, 1, 0x44, 0, 0, 0];
 
 // A response without parameters.
 const SUCCESS: [u8; 10] = [0x80, 1, 0, 0, 0, 10, 0, 0, 0, 0];
@@ -216,300 +222,143 @@ const AS_RESET: [Step; 8] = [
     Read(0x80, 8, 0),
 ];
 
-#[test]
-fn reads_after_a_reset(rt: HostRuntime) -> Result<(), Fail> {
-    let steps = [
-        Read(0x00, 4, 0x81),
-        Read(0x30, 4, 0x0002_5811),
-        Read(0x34, 4, 0x0000_1014),
-        Read(0x44, 4, 2),
-        Read(0x58, 4, 0xF80),
-        Read(0x5C, 4, 0xFED4_0080),
-        Read(0x68, 8, 0xFED4_0080),
-        Read(0xFFC, 4, 0xFFFF_FFFF),
-        NoJob,
-    ];
-    assert_eq!(rt; first_wrong(rt.alloc(), &[&steps])?, None);
-    Ok(())
-}
+const READ_AFTER_RESET: [Step; 9] = [
+    Read(0x00, 4, 0x81),
+    Read(0x30, 4, 0x0002_5811),
+    Read(0x34, 4, 0x0000_1014),
+    Read(0x44, 4, 2),
+    Read(0x58, 4, 0xF80),
+    Read(0x5C, 4, 0xFED4_0080),
+    Read(0x68, 8, 0xFED4_0080),
+    Read(0xFFC, 4, 0xFFFF_FFFF),
+    NoJob,
+];
 
-#[test]
-fn odd_places_and_values(rt: HostRuntime) -> Result<(), Fail> {
-    let steps = [
-        // Over the first byte of CTRL_STS and of the buffer, and from the middle of RSP_ADDR.
-        Read(0x42, 4, 0x0002_0000),
-        Read(0x7E, 4, 0xFFFF_0000),
-        Read(0x7C, 8, 0xFFFF_FFFF_0000_0000),
-        Read(0x69, 8, 0x00FE_D400),
-        // 3 asks for nothing.
-        Write(0x08, 4, 3),
-        Read(0x0C, 4, 0),
-        Write(0x08, 1, 1),
-        Read(0x00, 4, 0x83),
-        Read(0x0C, 4, 1),
-        Write(0x08, 4, 2),
-        Read(0x00, 4, 0x81),
-    ];
-    assert_eq!(rt; first_wrong(rt.alloc(), &[&steps])?, None);
-    Ok(())
-}
+const ODD_PLACES_AND_VALUES: [Step; 11] = [
+    // Over the first byte of CTRL_STS and of the buffer, and from the middle of RSP_ADDR.
+    Read(0x42, 4, 0x0002_0000),
+    Read(0x7E, 4, 0xFFFF_0000),
+    Read(0x7C, 8, 0xFFFF_FFFF_0000_0000),
+    Read(0x69, 8, 0x00FE_D400),
+    // 3 asks for nothing.
+    Write(0x08, 4, 3),
+    Read(0x0C, 4, 0),
+    Write(0x08, 1, 1),
+    Read(0x00, 4, 0x83),
+    Read(0x0C, 4, 1),
+    Write(0x08, 4, 2),
+    Read(0x00, 4, 0x81),
+];
 
-#[test]
-fn buffer(rt: HostRuntime) -> Result<(), Fail> {
-    let steps = [
-        // Idle takes no bytes and shows none.
-        Write(0x80, 4, 1),
-        Read(0x80, 4, 0xFFFF_FFFF),
-        Write(0x40, 4, 1),
-        Read(0x80, 4, 0),
-        Read(0x44, 4, 0),
-        // A write that begins before the buffer sets none of its bytes.
-        Write(0x7E, 4, 0xFFFF_FFFF),
-        Read(0x80, 4, 0),
-        Write(0x80, 8, 0x0102_0304_0506_0708),
-        Write(0x83, 2, 0xAABB),
-        Read(0x80, 8, 0x0102_03AA_BB06_0708),
-        Write(0xFF8, 8, 0x1112_1314_1516_1718),
-        Read(0xFFF, 1, 0x11),
-        // Asking for ready again does nothing; idle makes the buffer zeros.
-        Write(0x40, 4, 1),
-        Read(0x80, 1, 0x08),
-        Write(0x40, 4, 2),
-        Read(0x44, 4, 2),
-        Read(0x80, 1, 0xFF),
-        Write(0x40, 4, 1),
-        Read(0x80, 8, 0),
-        Read(0xFF8, 8, 0),
-    ];
-    assert_eq!(rt; first_wrong(rt.alloc(), &[&steps])?, None);
-    Ok(())
-}
+const BUFFER: [Step; 20] = [
+    // Idle takes no bytes and shows none.
+    Write(0x80, 4, 1),
+    Read(0x80, 4, 0xFFFF_FFFF),
+    Write(0x40, 4, 1),
+    Read(0x80, 4, 0),
+    Read(0x44, 4, 0),
+    // A write that begins before the buffer sets none of its bytes.
+    Write(0x7E, 4, 0xFFFF_FFFF),
+    Read(0x80, 4, 0),
+    Write(0x80, 8, 0x0102_0304_0506_0708),
+    Write(0x83, 2, 0xAABB),
+    Read(0x80, 8, 0x0102_03AA_BB06_0708),
+    Write(0xFF8, 8, 0x1112_1314_1516_1718),
+    Read(0xFFF, 1, 0x11),
+    // Asking for ready again does nothing; idle makes the buffer zeros.
+    Write(0x40, 4, 1),
+    Read(0x80, 1, 0x08),
+    Write(0x40, 4, 2),
+    Read(0x44, 4, 2),
+    Read(0x80, 1, 0xFF),
+    Write(0x40, 4, 1),
+    Read(0x80, 8, 0),
+    Read(0xFF8, 8, 0),
+];
 
-#[test]
-fn start_without_access(rt: HostRuntime) -> Result<(), Fail> {
-    let steps = [Read(0x4C, 4, 0), Read(0x80, 4, 0x180), NoJob];
-    assert_eq!(rt; first_wrong(rt.alloc(), &[&STARTUP[1..], &steps])?, None);
-    Ok(())
-}
+const NOT_STARTED: [Step; 3] = [Read(0x4C, 4, 0), Read(0x80, 4, 0x180), NoJob];
 
-#[test]
-fn whole_command(rt: HostRuntime) -> Result<(), Fail> {
-    let steps = [
-        Read(0x4C, 4, 1),
-        Read(0x80, 4, 0xFFFF_FFFF),
-        Claim(1, false),
-        // No write is taken while the command is executed, and giving access back leaves the command alone.
-        Write(0x80, 4, 5),
-        Write(0x40, 4, 1),
-        Write(0x4C, 4, 1),
-        Write(0x08, 4, 2),
-        Read(0x00, 4, 0x81),
-        Read(0x4C, 4, 1),
-        Read(0x88, 4, 0xFFFF_FFFF),
-        Step::Answer(Outcome::Done, &SUCCESS),
-        NoJob,
-        Read(0x4C, 4, 0),
-        Read(0x44, 4, 0),
-        Read(0x80, 4, 0x180),
-        Read(0x84, 4, 0xA00),
-        // Behind the response are zeros, and nothing is written over it.
-        Read(0x88, 4, 0),
-        Write(0x80, 4, 5),
-        Read(0x80, 4, 0x180),
-        Write(0x40, 4, 1),
-        Read(0x80, 8, 0),
-    ];
-    let next = [Claim(2, false)];
-    assert_eq!(rt;
-        first_wrong(rt.alloc(), &[&STARTUP, &steps, &STARTUP, &next])?,
-        None
-    );
-    Ok(())
-}
+const WHOLE_COMMAND: [Step; 21] = [
+    Read(0x4C, 4, 1),
+    Read(0x80, 4, 0xFFFF_FFFF),
+    Claim(1, false),
+    // No write is taken while the command is executed, and giving access back leaves the command alone.
+    Write(0x80, 4, 5),
+    Write(0x40, 4, 1),
+    Write(0x4C, 4, 1),
+    Write(0x08, 4, 2),
+    Read(0x00, 4, 0x81),
+    Read(0x4C, 4, 1),
+    Read(0x88, 4, 0xFFFF_FFFF),
+    Step::Answer(Outcome::Done, &SUCCESS),
+    NoJob,
+    Read(0x4C, 4, 0),
+    Read(0x44, 4, 0),
+    Read(0x80, 4, 0x180),
+    Read(0x84, 4, 0xA00),
+    // Behind the response are zeros, and nothing is written over it.
+    Read(0x88, 4, 0),
+    Write(0x80, 4, 5),
+    Read(0x80, 4, 0x180),
+    Write(0x40, 4, 1),
+    Read(0x80, 8, 0),
+];
 
-#[test]
-fn job_holds_the_command(rt: HostRuntime) -> Result<(), Fail> {
-    let mut bench = Bench::new(rt.alloc())?;
-    for step in STARTUP {
-        assert!(rt; bench.does(step));
-    }
-    assert!(rt; bench.claims());
-    let job = bench.job.as_ref().ok_or("no job")?;
-    let command = [0x80, 1, 0, 0, 0, 12, 0, 0, 1, 0x44, 0, 0, 0];
-    for (place, wanted) in command.iter().enumerate() {
-        assert_eq!(rt; job.buf.get(place), *wanted, "at {place}");
-    }
-    Ok(())
-}
+const CLAIMED: [Step; 1] = [Claim(1, false)];
 
-#[test]
-fn lost_answer(rt: HostRuntime) -> Result<(), Fail> {
-    let steps = [
-        Claim(1, false),
-        Step::Answer(Outcome::Lost, &[]),
-        Read(0x44, 4, 1),
-        Read(0x4C, 4, 0),
-        Read(0x80, 4, 0xFFFF_FFFF),
-        // No write does anything any more.
-        Write(0x40, 4, 1),
-        Write(0x40, 4, 2),
-        Write(0x08, 4, 2),
-        Write(0x48, 4, 1),
-        Read(0x00, 4, 0x83),
-        Read(0x44, 4, 1),
-        Read(0x48, 4, 0),
-    ];
-    assert_eq!(rt; first_wrong(rt.alloc(), &[&STARTUP, &steps])?, None);
-    Ok(())
-}
+const CLAIMED_SECOND: [Step; 1] = [Claim(2, false)];
 
-#[test]
-fn cancel(rt: HostRuntime) -> Result<(), Fail> {
-    let set = [Write(0x48, 4, 1), Read(0x48, 4, 1)];
-    let clear = [Write(0x48, 4, 0), Read(0x48, 4, 0)];
-    let cancelled = [Claim(1, true)];
-    let not_cancelled = [Claim(1, false)];
-    let answered = [
-        Read(0x4C, 4, 1),
-        Step::Answer(Outcome::Cancelled, &SUCCESS),
-        Read(0x4C, 4, 0),
-        Read(0x80, 4, 0x180),
-        Read(0x48, 4, 1),
-    ];
-    let alloc = rt.alloc();
-    // Before the claim; a 0 that is written later changes nothing.
-    assert_eq!(rt;
-        first_wrong(alloc, &[&STARTUP, &set, &cancelled, &answered])?,
-        None
-    );
-    assert_eq!(rt;
-        first_wrong(alloc, &[&STARTUP, &set, &clear, &cancelled])?,
-        None
-    );
-    // After the claim.
-    assert_eq!(rt;
-        first_wrong(alloc, &[&STARTUP, &not_cancelled, &set, &answered])?,
-        None
-    );
-    // CANCEL at START.
-    assert_eq!(rt; first_wrong(alloc, &[&set, &STARTUP, &cancelled])?, None);
-    assert_eq!(rt;
-        first_wrong(alloc, &[&set, &clear, &STARTUP, &not_cancelled])?,
-        None
-    );
-    Ok(())
-}
+const CLAIMED_CANCELLED: [Step; 1] = [Claim(1, true)];
 
-#[test]
-fn reset_in_each_phase(rt: HostRuntime) -> Result<(), Fail> {
-    let alloc = rt.alloc();
-    let reset = [Reset(None), Shows(Phase::Idle, 0)];
-    let reset_after_one = [Reset(None), Shows(Phase::Idle, 1)];
-    let answered = [Claim(1, false), Step::Answer(Outcome::Done, &SUCCESS)];
-    // Idle, Ready and Reception.
-    for length in [1, 2, 5] {
-        assert_eq!(rt;
-            first_wrong(alloc, &[&STARTUP[..length], &reset, &AS_RESET])?,
-            None
-        );
-    }
-    // A job that waits, an answer that stands, and one that was seen.
-    let seen = [Read(0x4C, 4, 0), Shows(Phase::Completion, 1)];
-    assert_eq!(rt;
-        first_wrong(alloc, &[&STARTUP, &reset_after_one, &AS_RESET])?,
-        None
-    );
-    assert_eq!(rt;
-        first_wrong(alloc, &[&STARTUP, &answered, &reset_after_one, &AS_RESET])?,
-        None
-    );
-    assert_eq!(rt;
-        first_wrong(
-            alloc,
-            &[&STARTUP, &answered, &seen, &reset_after_one, &AS_RESET]
-        )?,
-        None
-    );
-    Ok(())
-}
+const ANSWERED: [Step; 2] = [Claim(1, false), Step::Answer(Outcome::Done, &SUCCESS)];
 
-#[test]
-fn reset_of_a_claimed_job(rt: HostRuntime) -> Result<(), Fail> {
-    let steps = [
-        Claim(1, false),
-        Reset(Some(1)),
-        Shows(Phase::Execution, 1),
-        Read(0x00, 4, 0x83),
-        Step::Answer(Outcome::Done, &SUCCESS),
-        Read(0x80, 4, 0x180),
-        Reset(None),
-    ];
-    let next = [Claim(2, false)];
-    assert_eq!(rt;
-        first_wrong(
-            rt.alloc(),
-            &[
-                &STARTUP,
-                &steps,
-                &AS_RESET,
-                &STARTUP[..1],
-                &STARTUP[2..],
-                &next
-            ]
-        )?,
-        None
-    );
-    Ok(())
-}
+const ANSWER_SEEN: [Step; 2] = [Read(0x4C, 4, 0), Shows(Phase::Completion, 1)];
 
-#[test]
-fn reset_of_a_lost_device(rt: HostRuntime) -> Result<(), Fail> {
-    let lost = [Claim(1, false), Step::Answer(Outcome::Lost, &[])];
-    let seen = [Read(0x44, 4, 1), Shows(Phase::Lost, 1)];
-    // The answer stands, or was seen.
-    let reset = [Reset(None), Shows(Phase::Lost, 1), Read(0x00, 4, 0x83)];
-    assert_eq!(rt;
-        first_wrong(rt.alloc(), &[&STARTUP, &lost, &reset, &seen])?,
-        None
-    );
-    assert_eq!(rt;
-        first_wrong(rt.alloc(), &[&STARTUP, &lost, &seen, &reset])?,
-        None
-    );
-    Ok(())
-}
+const LOST: [Step; 2] = [Claim(1, false), Step::Answer(Outcome::Lost, &[])];
 
-#[test]
-fn device_that_is_given_up(rt: HostRuntime) -> Result<(), Fail> {
-    let shows = [
-        Shows(Phase::Lost, 0),
-        Read(0x44, 4, 1),
-        Read(0x4C, 4, 0),
-        Read(0x80, 4, 0xFFFF_FFFF),
-        NoJob,
-    ];
-    // Requests of access, cmdReady and goIdle, a cancel, and a command with its start.
-    let requests = [
-        Write(0x08, 4, 1),
-        Write(0x40, 4, 1),
-        Write(0x40, 4, 2),
-        Write(0x48, 4, 1),
-        Read(0x00, 4, 0x81),
-        Read(0x48, 4, 0),
-    ];
-    let reset = [Reset(None)];
-    let mut bench = Bench::failed(rt.alloc())?;
-    assert_eq!(rt;
-        bench.first_wrong(&[
-            &shows, &requests, &shows, &STARTUP, &shows, &reset, &shows, &requests, &shows
-        ]),
-        None
-    );
-    Ok(())
-}
+const LOST_SEEN: [Step; 2] = [Read(0x44, 4, 1), Shows(Phase::Lost, 1)];
 
-// The command that `STARTUP` writes, as far as it isn't zeros.
-const COMMAND: [u8; 10] = [0x80, 1, 0, 0, 0, 12, 0, 0, 1, 0x44];
+// No write does anything any more.
+const LOST_FOR_GOOD: [Step; 10] = [
+    Read(0x44, 4, 1),
+    Read(0x4C, 4, 0),
+    Read(0x80, 4, 0xFFFF_FFFF),
+    Write(0x40, 4, 1),
+    Write(0x40, 4, 2),
+    Write(0x08, 4, 2),
+    Write(0x48, 4, 1),
+    Read(0x00, 4, 0x83),
+    Read(0x44, 4, 1),
+    Read(0x48, 4, 0),
+];
+
+const CANCEL: [Step; 2] = [Write(0x48, 4, 1), Read(0x48, 4, 1)];
+
+const NO_CANCEL: [Step; 2] = [Write(0x48, 4, 0), Read(0x48, 4, 0)];
+
+const CANCELLED: [Step; 5] = [
+    Read(0x4C, 4, 1),
+    Step::Answer(Outcome::Cancelled, &SUCCESS),
+    Read(0x4C, 4, 0),
+    Read(0x80, 4, 0x180),
+    Read(0x48, 4, 1),
+];
+
+const RESET: [Step; 2] = [Reset(None), Shows(Phase::Idle, 0)];
+
+const RESET_AFTER_ONE: [Step; 2] = [Reset(None), Shows(Phase::Idle, 1)];
+
+const RESET_OF_A_CLAIMED_JOB: [Step; 7] = [
+    Claim(1, false),
+    Reset(Some(1)),
+    Shows(Phase::Execution, 1),
+    Read(0x00, 4, 0x83),
+    Step::Answer(Outcome::Done, &SUCCESS),
+    Read(0x80, 4, 0x180),
+    Reset(None),
+];
+
+const RESET_OF_A_LOST_DEVICE: [Step; 3] = [Reset(None), Shows(Phase::Lost, 1), Read(0x00, 4, 0x83)];
 
 // What a stop and a go-on give at each stage of a command.
 const STOPPED_IDLE: [Step; 7] = [
@@ -524,7 +373,7 @@ const STOPPED_IDLE: [Step; 7] = [
 
 const STOPPED_IN_RECEPTION: [Step; 6] = [
     Stop(None),
-    Holds([true, false, false], Phase::Reception, 0, &COMMAND),
+    Holds([true, false, false], Phase::Reception, 0, &COMMAND_BYTES),
     GoOn,
     Read(0x88, 4, 0x4401),
     Write(0x4C, 4, 1),
@@ -533,7 +382,7 @@ const STOPPED_IN_RECEPTION: [Step; 6] = [
 
 const STOPPED_WAITING: [Step; 6] = [
     Stop(None),
-    Holds([true, false, false], Phase::Execution, 1, &COMMAND),
+    Holds([true, false, false], Phase::Execution, 1, &COMMAND_BYTES),
     NoJob,
     GoOn,
     Read(0x4C, 4, 1),
@@ -543,7 +392,7 @@ const STOPPED_WAITING: [Step; 6] = [
 const STOPPED_CANCELLED: [Step; 6] = [
     Write(0x48, 4, 1),
     Stop(None),
-    Holds([true, true, true], Phase::Execution, 1, &COMMAND),
+    Holds([true, true, true], Phase::Execution, 1, &COMMAND_BYTES),
     NoJob,
     GoOn,
     Claim(1, true),
@@ -578,42 +427,292 @@ const STOPPED_LOST: [Step; 7] = [
     Read(0x44, 4, 1),
 ];
 
-#[test]
-fn stop_and_go_on_at_each_stage(rt: HostRuntime) -> Result<(), Fail> {
-    // How far the command was started before.
-    let cases: [(usize, &[Step]); 7] = [
-        (0, &STOPPED_IDLE),
-        (5, &STOPPED_IN_RECEPTION),
-        (6, &STOPPED_WAITING),
-        (6, &STOPPED_CANCELLED),
-        (6, &STOPPED_TOO_LATE),
-        (6, &STOPPED_ANSWERED),
-        (6, &STOPPED_LOST),
-    ];
-    for (length, steps) in cases {
-        assert_eq!(rt;
-            first_wrong(rt.alloc(), &[&STARTUP[..length], steps])?,
-            None
-        );
+// What a device after a reset is taken through.
+const SCRIPTS: [(&str, &[&[Step]]); 27] = [
+    ("reads after a reset", &[&READ_AFTER_RESET]),
+    ("odd places and values", &[&ODD_PLACES_AND_VALUES]),
+    ("the buffer", &[&BUFFER]),
+    (
+        "a start without access",
+        &[&READY, &COMMAND, &START, &NOT_STARTED],
+    ),
+    (
+        "a whole command, and the next",
+        &[
+            &ACCESS,
+            &READY,
+            &COMMAND,
+            &START,
+            &WHOLE_COMMAND,
+            &ACCESS,
+            &READY,
+            &COMMAND,
+            &START,
+            &CLAIMED_SECOND,
+        ],
+    ),
+    (
+        "a lost answer",
+        &[&ACCESS, &READY, &COMMAND, &START, &LOST, &LOST_FOR_GOOD],
+    ),
+    (
+        "a cancel before the claim",
+        &[
+            &ACCESS,
+            &READY,
+            &COMMAND,
+            &START,
+            &CANCEL,
+            &CLAIMED_CANCELLED,
+            &CANCELLED,
+        ],
+    ),
+    (
+        "a cancel that is cleared later",
+        &[
+            &ACCESS,
+            &READY,
+            &COMMAND,
+            &START,
+            &CANCEL,
+            &NO_CANCEL,
+            &CLAIMED_CANCELLED,
+        ],
+    ),
+    (
+        "a cancel after the claim",
+        &[
+            &ACCESS, &READY, &COMMAND, &START, &CLAIMED, &CANCEL, &CANCELLED,
+        ],
+    ),
+    (
+        "a cancel that stands at START",
+        &[
+            &CANCEL,
+            &ACCESS,
+            &READY,
+            &COMMAND,
+            &START,
+            &CLAIMED_CANCELLED,
+        ],
+    ),
+    (
+        "a cancel that was cleared before START",
+        &[
+            &CANCEL, &NO_CANCEL, &ACCESS, &READY, &COMMAND, &START, &CLAIMED,
+        ],
+    ),
+    ("a reset while idle", &[&ACCESS, &RESET, &AS_RESET]),
+    ("a reset while ready", &[&ACCESS, &READY, &RESET, &AS_RESET]),
+    (
+        "a reset in reception",
+        &[&ACCESS, &READY, &COMMAND, &RESET, &AS_RESET],
+    ),
+    (
+        "a reset of a job that waits",
+        &[
+            &ACCESS,
+            &READY,
+            &COMMAND,
+            &START,
+            &RESET_AFTER_ONE,
+            &AS_RESET,
+        ],
+    ),
+    (
+        "a reset of an answer that stands",
+        &[
+            &ACCESS,
+            &READY,
+            &COMMAND,
+            &START,
+            &ANSWERED,
+            &RESET_AFTER_ONE,
+            &AS_RESET,
+        ],
+    ),
+    (
+        "a reset of an answer that was seen",
+        &[
+            &ACCESS,
+            &READY,
+            &COMMAND,
+            &START,
+            &ANSWERED,
+            &ANSWER_SEEN,
+            &RESET_AFTER_ONE,
+            &AS_RESET,
+        ],
+    ),
+    (
+        "a reset of a claimed job",
+        &[
+            &ACCESS,
+            &READY,
+            &COMMAND,
+            &START,
+            &RESET_OF_A_CLAIMED_JOB,
+            &AS_RESET,
+            &ACCESS,
+            &COMMAND,
+            &START,
+            &CLAIMED_SECOND,
+        ],
+    ),
+    (
+        "a reset of a lost device",
+        &[
+            &ACCESS,
+            &READY,
+            &COMMAND,
+            &START,
+            &LOST,
+            &RESET_OF_A_LOST_DEVICE,
+            &LOST_SEEN,
+        ],
+    ),
+    (
+        "a reset of a device that was seen lost",
+        &[
+            &ACCESS,
+            &READY,
+            &COMMAND,
+            &START,
+            &LOST,
+            &LOST_SEEN,
+            &RESET_OF_A_LOST_DEVICE,
+        ],
+    ),
+    ("a stop while idle", &[&STOPPED_IDLE]),
+    (
+        "a stop in reception",
+        &[&ACCESS, &READY, &COMMAND, &STOPPED_IN_RECEPTION],
+    ),
+    (
+        "a stop of a job that waits",
+        &[&ACCESS, &READY, &COMMAND, &START, &STOPPED_WAITING],
+    ),
+    (
+        "a stop of a cancelled job",
+        &[&ACCESS, &READY, &COMMAND, &START, &STOPPED_CANCELLED],
+    ),
+    (
+        "a stop of a claimed job",
+        &[&ACCESS, &READY, &COMMAND, &START, &STOPPED_TOO_LATE],
+    ),
+    (
+        "a stop of an answer",
+        &[&ACCESS, &READY, &COMMAND, &START, &STOPPED_ANSWERED],
+    ),
+    (
+        "a stop of a lost device",
+        &[&ACCESS, &READY, &COMMAND, &START, &STOPPED_LOST],
+    ),
+];
+
+// The first script that doesn't go as it is to.
+fn wrong_script(alloc: Global) -> Result<Option<&'static str>, AllocError> {
+    for (name, scripts) in SCRIPTS {
+        if first_wrong(alloc, scripts)?.is_some() {
+            return Ok(Some(name));
+        }
     }
+    Ok(None)
+}
+
+#[test]
+fn each_script(rt: HostRuntime) -> Result<(), Fail> {
+    assert_eq!(rt; wrong_script(rt.alloc())?, None);
     Ok(())
 }
+
+// What a device shows that is given up.
+const GIVEN_UP: [Step; 5] = [
+    Shows(Phase::Lost, 0),
+    Read(0x44, 4, 1),
+    Read(0x4C, 4, 0),
+    Read(0x80, 4, 0xFFFF_FFFF),
+    NoJob,
+];
+
+// Requests of access, cmdReady and goIdle, and a cancel.
+const REQUESTS: [Step; 6] = [
+    Write(0x08, 4, 1),
+    Write(0x40, 4, 1),
+    Write(0x40, 4, 2),
+    Write(0x48, 4, 1),
+    Read(0x00, 4, 0x81),
+    Read(0x48, 4, 0),
+];
+
+const RESET_IN_VAIN: [Step; 1] = [Reset(None)];
+
+#[test]
+fn device_that_is_given_up(rt: HostRuntime) -> Result<(), Fail> {
+    let mut bench = Bench::failed(rt.alloc())?;
+    let wrong = bench.first_wrong(&[
+        &GIVEN_UP,
+        &REQUESTS,
+        &GIVEN_UP,
+        &ACCESS,
+        &READY,
+        &COMMAND,
+        &START,
+        &GIVEN_UP,
+        &RESET_IN_VAIN,
+        &GIVEN_UP,
+        &REQUESTS,
+        &GIVEN_UP,
+    ]);
+    assert_eq!(rt; wrong, None);
+    Ok(())
+}
+
+// Whether the job of a command holds its bytes.
+fn holds_the_command(bench: &mut Bench) -> bool {
+    let wrong = bench.first_wrong(&[&ACCESS, &READY, &COMMAND, &START]);
+    if wrong.is_some() || !bench.claims() {
+        return false;
+    }
+    match &bench.job {
+        Some(job) => job.buf.bytes().starts_with(&COMMAND_BYTES),
+        None => false,
+    }
+}
+
+#[test]
+fn job_holds_the_command(rt: HostRuntime) -> Result<(), Fail> {
+    let mut bench = Bench::new(rt.alloc())?;
+    assert!(rt; holds_the_command(&mut bench));
+    Ok(())
+}
+
+// A device that is held with the values of its guest, which has the response of its command 7.
+const RESTORED: [Step; 7] = [
+    Holds([true, true, false], Phase::Completion, 7, &SUCCESS),
+    GoOn,
+    Read(0x00, 4, 0x83),
+    Read(0x48, 4, 1),
+    Read(0x80, 4, 0x180),
+    // Behind the bytes that were given are zeros.
+    Read(0x88, 4, 0),
+    Shows(Phase::Completion, 7),
+];
+
+const NEXT_OF_RESTORED: [Step; 1] = [Claim(8, true)];
 
 #[test]
 fn restored_values_are_read(rt: HostRuntime) -> Result<(), Fail> {
     let mut bench = Bench::restored(rt.alloc())?;
-    let steps = [
-        Holds([true, true, false], Phase::Completion, 7, &SUCCESS),
-        GoOn,
-        Read(0x00, 4, 0x83),
-        Read(0x48, 4, 1),
-        Read(0x80, 4, 0x180),
-        // Behind the bytes that were given are zeros.
-        Read(0x88, 4, 0),
-        Shows(Phase::Completion, 7),
-    ];
-    let next = [Claim(8, true)];
-    assert_eq!(rt; bench.first_wrong(&[&steps, &STARTUP, &next]), None);
+    let wrong = bench.first_wrong(&[
+        &RESTORED,
+        &ACCESS,
+        &READY,
+        &COMMAND,
+        &START,
+        &NEXT_OF_RESTORED,
+    ]);
+    assert_eq!(rt; wrong, None);
     Ok(())
 }
 

@@ -137,89 +137,166 @@ const BLOB: [u8; 26] = [
     0, 0, 0, 0, 0, 0, 0, 0, 0, 0, 0, 10, 0, 0, 0, 10, 0x43, 0x52, 0x42, 0x56, 1, 0, 0, 0, 1, 0,
 ];
 
-#[test]
-fn requests_and_good_replies(rt: HostRuntime) -> Result<(), Fail> {
-    let alloc = rt.alloc();
-    for (ask, piece, request, reply, value) in [
-        (Ask::Init, 4096, INIT.as_slice(), DONE.as_slice(), 0),
-        (Ask::Init, 1, INIT.as_slice(), DONE.as_slice(), 0),
-        (Ask::Stop, 4096, STOP.as_slice(), DONE.as_slice(), 0),
-        (Ask::Stop, 1, STOP.as_slice(), DONE.as_slice(), 0),
-        (Ask::Cancel, 4096, CANCEL.as_slice(), DONE.as_slice(), 0),
-        (Ask::Cancel, 1, CANCEL.as_slice(), DONE.as_slice(), 0),
-        (Ask::Put, 4096, PUT.as_slice(), DONE.as_slice(), 0),
-        (Ask::Put, 1, PUT.as_slice(), DONE.as_slice(), 0),
-        (
-            Ask::Buffer(2000),
-            4096,
-            BUFFER.as_slice(),
-            TOOK.as_slice(),
-            2000,
-        ),
-        (
-            Ask::Buffer(2000),
-            1,
-            BUFFER.as_slice(),
-            TOOK.as_slice(),
-            2000,
-        ),
-        (
-            Ask::Buffer(0),
-            4096,
-            NO_BUFFER.as_slice(),
-            TOOK.as_slice(),
-            2000,
-        ),
-    ] {
-        let mut wires = prepared(alloc, reply, piece, 0)?;
-        assert_eq!(rt; asked(&mut wires, ask), Ok(value));
-        assert_eq!(rt; wires.sent.as_slice(), request);
+// The result 10, and the sizes.
+const NOT_TAKEN: [u8; 16] = [0, 0, 0, 10, 0, 0, 0x07, 0xD0, 0, 0, 4, 0, 0, 0, 0x10, 0];
+
+// The first byte of a reply is all there is of it, or all but its last byte.
+const BEGUN: [u8; 1] = [0];
+
+const CUT: [u8; 15] = [0, 0, 0, 0, 0, 0, 0x07, 0xD0, 0, 0, 4, 0, 0, 0, 0x10];
+
+// A request; how many bytes come at once at most, and the number of the call that fails, if it isn't 0; the reply; the
+// request's bytes, how many of them are sent, and the answer.
+type Asked = (
+    Ask,
+    usize,
+    u64,
+    &'static [u8],
+    &'static [u8],
+    usize,
+    Result<u32, ClientFault>,
+);
+
+const ASKED: [Asked; 29] = [
+    (Ask::Init, 4096, 0, &DONE, &INIT, 8, Ok(0)),
+    (Ask::Init, 1, 0, &DONE, &INIT, 8, Ok(0)),
+    (Ask::Stop, 4096, 0, &DONE, &STOP, 4, Ok(0)),
+    (Ask::Stop, 1, 0, &DONE, &STOP, 4, Ok(0)),
+    (Ask::Cancel, 4096, 0, &DONE, &CANCEL, 4, Ok(0)),
+    (Ask::Cancel, 1, 0, &DONE, &CANCEL, 4, Ok(0)),
+    (Ask::Put, 4096, 0, &DONE, &PUT, 19, Ok(0)),
+    (Ask::Put, 1, 0, &DONE, &PUT, 19, Ok(0)),
+    (Ask::Buffer(2000), 4096, 0, &TOOK, &BUFFER, 8, Ok(2000)),
+    (Ask::Buffer(2000), 1, 0, &TOOK, &BUFFER, 8, Ok(2000)),
+    (Ask::Buffer(0), 4096, 0, &TOOK, &NO_BUFFER, 8, Ok(2000)),
+    // A result that isn't 0.
+    (
+        Ask::Init,
+        4096,
+        0,
+        &[0, 0, 0, 3],
+        &INIT,
+        8,
+        Err(ClientFault::Result(3)),
+    ),
+    (
+        Ask::Stop,
+        4096,
+        0,
+        &[0, 0, 0, 10],
+        &STOP,
+        4,
+        Err(ClientFault::Result(10)),
+    ),
+    (
+        Ask::Cancel,
+        4096,
+        0,
+        &[0x80, 0, 0, 0],
+        &CANCEL,
+        4,
+        Err(ClientFault::Result(0x8000_0000)),
+    ),
+    (
+        Ask::Put,
+        4096,
+        0,
+        &[0xFF, 0xFF, 0xFF, 0xFF],
+        &PUT,
+        19,
+        Err(ClientFault::Result(0xFFFF_FFFF)),
+    ),
+    (
+        Ask::Buffer(2000),
+        4096,
+        0,
+        &NOT_TAKEN,
+        &BUFFER,
+        8,
+        Err(ClientFault::Result(10)),
+    ),
+    // A send fails, and behind the sends the receive.
+    (Ask::Init, 4096, 1, &DONE, &INIT, 0, Err(ClientFault::Link)),
+    (Ask::Init, 4096, 2, &DONE, &INIT, 8, Err(ClientFault::Link)),
+    (Ask::Stop, 4096, 1, &DONE, &STOP, 0, Err(ClientFault::Link)),
+    (Ask::Stop, 4096, 2, &DONE, &STOP, 4, Err(ClientFault::Link)),
+    (
+        Ask::Cancel,
+        4096,
+        1,
+        &DONE,
+        &CANCEL,
+        0,
+        Err(ClientFault::Link),
+    ),
+    (
+        Ask::Cancel,
+        4096,
+        2,
+        &DONE,
+        &CANCEL,
+        4,
+        Err(ClientFault::Link),
+    ),
+    (Ask::Put, 4096, 1, &DONE, &PUT, 0, Err(ClientFault::Link)),
+    (Ask::Put, 4096, 2, &DONE, &PUT, 16, Err(ClientFault::Link)),
+    (Ask::Put, 4096, 3, &DONE, &PUT, 19, Err(ClientFault::Link)),
+    (
+        Ask::Buffer(2000),
+        4096,
+        1,
+        &TOOK,
+        &BUFFER,
+        0,
+        Err(ClientFault::Link),
+    ),
+    (
+        Ask::Buffer(2000),
+        4096,
+        2,
+        &TOOK,
+        &BUFFER,
+        8,
+        Err(ClientFault::Link),
+    ),
+    // The reply ends early.
+    (Ask::Stop, 4096, 0, &BEGUN, &STOP, 4, Err(ClientFault::Link)),
+    (
+        Ask::Buffer(2000),
+        4096,
+        0,
+        &CUT,
+        &BUFFER,
+        8,
+        Err(ClientFault::Link),
+    ),
+];
+
+// Whether so many bytes of this request were sent.
+fn has_sent(wires: &Script, request: &[u8], count: usize) -> bool {
+    request.get(..count) == Some(wires.sent.as_slice())
+}
+
+// Whether a request goes so.
+fn goes(alloc: Global, row: &Asked) -> Result<bool, AllocError> {
+    let (ask, piece, failing, reply, request, sent, answer) = *row;
+    let mut wires = prepared(alloc, reply, piece, failing)?;
+    Ok(asked(&mut wires, ask) == answer && has_sent(&wires, request, sent))
+}
+
+// The number of the first request that goes otherwise.
+fn wrong_request(alloc: Global) -> Result<Option<usize>, AllocError> {
+    for (number, row) in ASKED.iter().enumerate() {
+        if !goes(alloc, row)? {
+            return Ok(Some(number));
+        }
     }
-    Ok(())
+    Ok(None)
 }
 
 #[test]
-fn results_that_are_not_zero(rt: HostRuntime) -> Result<(), Fail> {
-    let alloc = rt.alloc();
-    let mut refused = TOOK;
-    refused[3] = 10;
-    for (ask, reply, result) in [
-        (Ask::Init, [0, 0, 0, 3].as_slice(), 3),
-        (Ask::Stop, [0, 0, 0, 10].as_slice(), 10),
-        (Ask::Cancel, [0x80, 0, 0, 0].as_slice(), 0x8000_0000),
-        (Ask::Put, [0xFF, 0xFF, 0xFF, 0xFF].as_slice(), 0xFFFF_FFFF),
-        (Ask::Buffer(2000), refused.as_slice(), 10),
-    ] {
-        let mut wires = prepared(alloc, reply, 4096, 0)?;
-        assert_eq!(rt; asked(&mut wires, ask), Err(ClientFault::Result(result)));
-    }
-    Ok(())
-}
-
-#[test]
-fn calls_that_fail(rt: HostRuntime) -> Result<(), Fail> {
-    let alloc = rt.alloc();
-    for (ask, failing, reply, sent) in [
-        // The call of that number fails: a send, and behind the sends the receive.
-        (Ask::Init, 1, DONE.as_slice(), 0),
-        (Ask::Init, 2, DONE.as_slice(), 8),
-        (Ask::Stop, 1, DONE.as_slice(), 0),
-        (Ask::Stop, 2, DONE.as_slice(), 4),
-        (Ask::Cancel, 1, DONE.as_slice(), 0),
-        (Ask::Cancel, 2, DONE.as_slice(), 4),
-        (Ask::Put, 1, DONE.as_slice(), 0),
-        (Ask::Put, 2, DONE.as_slice(), 16),
-        (Ask::Put, 3, DONE.as_slice(), 19),
-        (Ask::Buffer(2000), 1, TOOK.as_slice(), 0),
-        (Ask::Buffer(2000), 2, TOOK.as_slice(), 8),
-        // The reply ends early.
-        (Ask::Stop, 0, &DONE[..3], 4),
-        (Ask::Buffer(2000), 0, &TOOK[..15], 8),
-    ] {
-        let mut wires = prepared(alloc, reply, 4096, failing)?;
-        assert_eq!(rt; asked(&mut wires, ask), Err(ClientFault::Link));
-        assert_eq!(rt; wires.sent.as_slice().len(), sent);
-    }
+fn each_request(rt: HostRuntime) -> Result<(), Fail> {
+    assert_eq!(rt; wrong_request(rt.alloc())?, None);
     Ok(())
 }
 
@@ -234,98 +311,210 @@ fn fetched(wires: &mut Script, offset: u32) -> Fetched {
     (answer, into, wires.sent.as_slice().len(), wires.was_cut)
 }
 
-// The twelve bytes where none was filled.
+// The twelve bytes where none was filled, where two were, and where the blob was.
 const NOTHING: [u8; 12] = [0xEE; 12];
 
-#[test]
-fn pieces_that_come(rt: HostRuntime) -> Result<(), Fail> {
-    let alloc = rt.alloc();
-    let whole = [0x43, 0x52, 0x42, 0x56, 1, 0, 0, 0, 1, 0, 0xEE, 0xEE];
-    let mut two = NOTHING;
-    two[..2].copy_from_slice(&[0x43, 0x52]);
-    let mut first = BLOB;
-    first[15] = 2;
-    let mut end = BLOB;
-    end[15] = 0;
-    for (offset, piece, reply, length, held) in [
-        (0, 4096, BLOB, 10, whole),
-        (0, 1, BLOB, 10, whole),
-        (0, 7, BLOB, 10, whole),
-        // A piece that isn't the whole of what is left, one that is, and none at the end of the blob.
-        (0, 4096, first, 2, two),
-        (8, 4096, first, 2, two),
-        (10, 4096, end, 0, NOTHING),
-        (10, 1, end, 0, NOTHING),
-    ] {
-        let mut wires = prepared(alloc, &reply, piece, 0)?;
-        assert_eq!(rt;
-            fetched(&mut wires, offset),
-            (Ok(Piece { total: 10, length }), held, 16, false)
-        );
-        assert!(rt; wires.sent.as_slice().starts_with(&GET));
+const TWO: [u8; 12] = [
+    0x43, 0x52, 0xEE, 0xEE, 0xEE, 0xEE, 0xEE, 0xEE, 0xEE, 0xEE, 0xEE, 0xEE,
+];
+
+const WHOLE: [u8; 12] = [0x43, 0x52, 0x42, 0x56, 1, 0, 0, 0, 1, 0, 0xEE, 0xEE];
+
+// The offset that is asked for; how many bytes come at once at most, and the number of the call that fails, if it isn't 0;
+// the last bytes of the result, the flags, the total and the length in the reply, and how many of its bytes come.
+type Reply = (u32, usize, u64, [u8; 4], usize);
+
+const FETCHED: [(Reply, Fetched); 22] = [
+    (
+        (0, 4096, 0, [0, 0, 10, 10], 26),
+        (
+            Ok(Piece {
+                total: 10,
+                length: 10,
+            }),
+            WHOLE,
+            16,
+            false,
+        ),
+    ),
+    (
+        (0, 1, 0, [0, 0, 10, 10], 26),
+        (
+            Ok(Piece {
+                total: 10,
+                length: 10,
+            }),
+            WHOLE,
+            16,
+            false,
+        ),
+    ),
+    (
+        (0, 7, 0, [0, 0, 10, 10], 26),
+        (
+            Ok(Piece {
+                total: 10,
+                length: 10,
+            }),
+            WHOLE,
+            16,
+            false,
+        ),
+    ),
+    // A piece that isn't the whole of what is left, one that is, and none at the end of the blob.
+    (
+        (0, 4096, 0, [0, 0, 10, 2], 26),
+        (
+            Ok(Piece {
+                total: 10,
+                length: 2,
+            }),
+            TWO,
+            16,
+            false,
+        ),
+    ),
+    (
+        (8, 4096, 0, [0, 0, 10, 2], 26),
+        (
+            Ok(Piece {
+                total: 10,
+                length: 2,
+            }),
+            TWO,
+            16,
+            false,
+        ),
+    ),
+    (
+        (10, 4096, 0, [0, 0, 10, 0], 26),
+        (
+            Ok(Piece {
+                total: 10,
+                length: 0,
+            }),
+            NOTHING,
+            16,
+            false,
+        ),
+    ),
+    (
+        (10, 1, 0, [0, 0, 10, 0], 26),
+        (
+            Ok(Piece {
+                total: 10,
+                length: 0,
+            }),
+            NOTHING,
+            16,
+            false,
+        ),
+    ),
+    // Result 3; flags 1; an offset of 11 in 10 bytes.
+    (
+        (0, 4096, 0, [3, 0, 0, 0], 26),
+        (Err(ClientFault::Result(3)), NOTHING, 16, true),
+    ),
+    (
+        (0, 4096, 0, [3, 1, 0, 9], 26),
+        (Err(ClientFault::Result(3)), NOTHING, 16, true),
+    ),
+    (
+        (0, 4096, 0, [0, 1, 10, 10], 26),
+        (Err(ClientFault::Reply(4)), NOTHING, 16, true),
+    ),
+    (
+        (11, 4096, 0, [0, 0, 10, 0], 26),
+        (Err(ClientFault::Reply(8)), NOTHING, 16, true),
+    ),
+    (
+        (0x0102_0304, 4096, 0, [0, 0, 10, 10], 26),
+        (Err(ClientFault::Reply(8)), NOTHING, 16, true),
+    ),
+    // 3 of 2 bytes that are left, 13 into room for 12, none of 1 and of 10 that are left, and 1 of none.
+    (
+        (8, 4096, 0, [0, 0, 10, 3], 26),
+        (Err(ClientFault::Reply(12)), NOTHING, 16, true),
+    ),
+    (
+        (0, 4096, 0, [0, 0, 20, 13], 26),
+        (Err(ClientFault::Reply(12)), NOTHING, 16, true),
+    ),
+    (
+        (9, 4096, 0, [0, 0, 10, 0], 26),
+        (Err(ClientFault::Reply(12)), NOTHING, 16, true),
+    ),
+    (
+        (0, 4096, 0, [0, 0, 10, 0], 26),
+        (Err(ClientFault::Reply(12)), NOTHING, 16, true),
+    ),
+    (
+        (10, 4096, 0, [0, 0, 10, 1], 26),
+        (Err(ClientFault::Reply(12)), NOTHING, 16, true),
+    ),
+    // The send fails, the receive of the fields, and that of the data.
+    (
+        (0, 4096, 1, [0, 0, 10, 10], 26),
+        (Err(ClientFault::Link), NOTHING, 0, false),
+    ),
+    (
+        (0, 4096, 2, [0, 0, 10, 10], 26),
+        (Err(ClientFault::Link), NOTHING, 16, false),
+    ),
+    (
+        (0, 4096, 3, [0, 0, 10, 10], 26),
+        (Err(ClientFault::Link), NOTHING, 16, false),
+    ),
+    // The reply ends early.
+    (
+        (0, 4096, 0, [0, 0, 10, 10], 15),
+        (Err(ClientFault::Link), NOTHING, 16, false),
+    ),
+    (
+        (0, 4096, 0, [0, 0, 10, 10], 16),
+        (Err(ClientFault::Link), NOTHING, 16, false),
+    ),
+];
+
+// The reply with these four numbers.
+fn reply_of(fields: [u8; 4]) -> [u8; 26] {
+    let mut reply = BLOB;
+    reply[3] = fields[0];
+    reply[7] = fields[1];
+    reply[11] = fields[2];
+    reply[15] = fields[3];
+    reply
+}
+
+// Whether this comes of a request for a piece; a request that is sent is that of the volatile state from the offset on.
+fn is_fetched(wires: &mut Script, offset: u32, wanted: &Fetched) -> bool {
+    let came = fetched(wires, offset);
+    let sent = wires.sent.as_slice();
+    came == *wanted
+        && (sent.is_empty() || sent.starts_with(&GET) && sent.ends_with(&offset.to_be_bytes()))
+}
+
+// Whether this comes of a request for a piece that has this reply.
+fn comes(alloc: Global, reply: &Reply, wanted: &Fetched) -> Result<bool, AllocError> {
+    let (offset, piece, failing, fields, count) = *reply;
+    let bytes = reply_of(fields);
+    let mut wires = prepared(alloc, bytes.get(..count).unwrap_or(&[]), piece, failing)?;
+    Ok(is_fetched(&mut wires, offset, wanted))
+}
+
+// The number of the first piece that comes otherwise.
+fn wrong_piece(alloc: Global) -> Result<Option<usize>, AllocError> {
+    for (number, (reply, wanted)) in FETCHED.iter().enumerate() {
+        if !comes(alloc, reply, wanted)? {
+            return Ok(Some(number));
+        }
     }
-    Ok(())
+    Ok(None)
 }
 
 #[test]
-fn the_offset_is_sent(rt: HostRuntime) -> Result<(), Fail> {
-    let mut wires = prepared(rt.alloc(), &BLOB, 4096, 0)?;
-    assert_eq!(rt;
-        fetched(&mut wires, 0x0102_0304).0,
-        Err(ClientFault::Reply(8))
-    );
-    assert!(rt; wires.sent.as_slice().ends_with(&[1, 2, 3, 4]));
-    Ok(())
-}
-
-#[test]
-fn pieces_that_cannot_stand(rt: HostRuntime) -> Result<(), Fail> {
-    let alloc = rt.alloc();
-    for (offset, fields, fault) in [
-        // Result 3; flags 1; an offset of 11 in 10 bytes.
-        (0, [3, 0, 0, 0], ClientFault::Result(3)),
-        (0, [3, 1, 0, 9], ClientFault::Result(3)),
-        (0, [0, 1, 10, 10], ClientFault::Reply(4)),
-        (11, [0, 0, 10, 0], ClientFault::Reply(8)),
-        // 3 of 2 bytes that are left, 13 into room for 12, none of 1 and of 10 that are left, and 1 of none.
-        (8, [0, 0, 10, 3], ClientFault::Reply(12)),
-        (0, [0, 0, 20, 13], ClientFault::Reply(12)),
-        (9, [0, 0, 10, 0], ClientFault::Reply(12)),
-        (0, [0, 0, 10, 0], ClientFault::Reply(12)),
-        (10, [0, 0, 10, 1], ClientFault::Reply(12)),
-    ] {
-        let mut reply = BLOB;
-        reply[3] = fields[0];
-        reply[7] = fields[1];
-        reply[11] = fields[2];
-        reply[15] = fields[3];
-        let mut wires = prepared(alloc, &reply, 4096, 0)?;
-        assert_eq!(rt;
-            fetched(&mut wires, offset),
-            (Err(fault), NOTHING, 16, true)
-        );
-    }
-    Ok(())
-}
-
-#[test]
-fn pieces_whose_calls_fail(rt: HostRuntime) -> Result<(), Fail> {
-    let alloc = rt.alloc();
-    for (reply, failing, sent) in [
-        // The send, the receive of the fields, and that of the data.
-        (BLOB.as_slice(), 1, 0),
-        (BLOB.as_slice(), 2, 16),
-        (BLOB.as_slice(), 3, 16),
-        // The reply ends early.
-        (&BLOB[..15], 0, 16),
-        (&BLOB[..16], 0, 16),
-    ] {
-        let mut wires = prepared(alloc, reply, 4096, failing)?;
-        assert_eq!(rt;
-            fetched(&mut wires, 0),
-            (Err(ClientFault::Link), NOTHING, sent, false)
-        );
-    }
+fn each_piece(rt: HostRuntime) -> Result<(), Fail> {
+    assert_eq!(rt; wrong_piece(rt.alloc())?, None);
     Ok(())
 }
 

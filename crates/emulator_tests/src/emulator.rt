@@ -1,10 +1,9 @@
 //! Exchanges on the two channels, written down by hand.
 
-ghost use Rattle.std.specs.Prelude.{◌<◌};
+ghost use Rattle.std.specs.Prelude.{◌<◌, ◌≤◌};
 
 use ctrl_codec::{Out, Request, write_request};
-use std::alloc::Global;
-use std::process::Abort;
+use std::alloc::{AllocError, Global};
 use std::test::*;
 use vt_base::Buf;
 use vt_emulator::laws::{command_in_parts, control_in_parts, steps_are_told_once, three_close};
@@ -245,145 +244,160 @@ const MOVED: [Step; 4] = [
 /// Where its volatile state is deleted, power comes to it.
 const DELETED: [Step; 3] = [Ask("0000000200000001", DONE), Give(READ), Run(NOT_STARTED)];
 
-/// Gives a request in pieces of so many bytes: before the last there is no reply.
-fn ask(
-    rt: &impl Abort,
-    alloc: Global,
-    emulator: &mut Emulator,
-    size: usize,
-    request: &str,
-    reply: &str,
-) -> Result<(), Fail>
+/// Whether a request is taken whole in pieces of so many bytes, with no reply before the last.
+fn is_taken(emulator: &mut Emulator, size: usize, request: &[u8], out: &mut Out) -> bool
     requires { 0 < size }
 {
-    let bytes = hex::decode(alloc, request)?;
-    let mut out = Out::new();
-    for piece in bytes.chunks(size) {
-        assert!(rt; out.bytes().is_empty(), "{request}");
+    for piece in request.chunks(size) {
+        if !out.bytes().is_empty() {
+            return false;
+        }
         out.clear();
-        let heard = emulator.control(piece, &mut out);
-        assert_eq!(rt; heard.used, piece.len(), "{request}");
+        if emulator.control(piece, out).used != piece.len() {
+            return false;
+        }
     }
-    let wanted = hex::decode(alloc, reply)?;
-    assert_eq!(rt; out.bytes(), wanted.as_slice(), "{request}");
-    Ok(())
+    true
 }
 
-/// Gives a command in two parts.
-fn give(
-    rt: &impl Abort,
-    alloc: Global,
-    emulator: &mut Emulator,
-    command: &str,
-) -> Result<(), Fail> {
-    let bytes = hex::decode(alloc, command)?;
-    let (front, rest) = bytes.split_at(bytes.len().min(7));
+/// Whether a request in pieces of so many bytes has this reply.
+fn asks(alloc: Global, emulator: &mut Emulator, size: usize, request: &str, reply: &str) -> bool
+    requires { 0 < size }
+{
+    let Ok(request) = hex::decode(alloc, request) else {
+        return false;
+    };
+    let Ok(reply) = hex::decode(alloc, reply) else {
+        return false;
+    };
+    let mut out = Out::new();
+    is_taken(emulator, size, &request, &mut out) && out.bytes() == reply.as_slice()
+}
+
+/// Whether a command is held once its second part came, and takes no more bytes then.
+fn is_held(emulator: &mut Emulator, command: &[u8]) -> bool {
+    let (front, rest) = command.split_at(command.len().min(7));
     let part = emulator.data(front);
-    assert_eq!(rt; (part.used, part.whole), (7, false), "{command}");
-    assert_eq!(rt; emulator.holds(), false, "{command}");
+    if part.used != front.len() || part.whole || emulator.holds() {
+        return false;
+    }
     let whole = emulator.data(rest);
-    assert_eq!(rt; (whole.used, whole.whole), (rest.len(), true), "{command}");
-    assert_eq!(rt; emulator.holds(), true, "{command}");
+    if whole.used != rest.len() || !whole.whole || !emulator.holds() {
+        return false;
+    }
     let none = emulator.data(rest);
-    assert_eq!(rt; (none.used, none.whole), (0, true), "{command}");
-    Ok(())
+    none.used == 0 && none.whole
 }
 
-/// The command that is held is answered so, once.
-fn run(
-    rt: &impl Abort,
-    alloc: Global,
-    emulator: &mut Emulator,
-    response: &str,
-) -> Result<(), Fail> {
-    let mut into = Buf::new(alloc)?;
-    let size = emulator.run_held(&mut into);
-    let wanted = hex::decode(alloc, response)?;
-    assert!(rt;
-        into.bytes().get(..size) == Some(wanted.as_slice()),
-        "{response}"
-    );
-    assert_eq!(rt; emulator.holds(), false, "{response}");
-    assert_eq!(rt; emulator.run_held(&mut into), 0, "{response}");
-    Ok(())
+/// Whether this command is held.
+fn gives(alloc: Global, emulator: &mut Emulator, command: &str) -> bool {
+    match hex::decode(alloc, command) {
+        Ok(command) => is_held(emulator, &command),
+        Err(_) => false,
+    }
 }
 
-/// Does what a table says, with requests in pieces of so many bytes.
-fn play(
-    rt: &impl Abort,
+/// Whether the command that is held is answered so, once.
+fn is_run(emulator: &mut Emulator, into: &mut Buf, response: &[u8]) -> bool {
+    let size = emulator.run_held(into);
+    into.bytes().get(..size) == Some(response) && !emulator.holds() && emulator.run_held(into) == 0
+}
+
+fn runs(alloc: Global, emulator: &mut Emulator, response: &str) -> bool {
+    let Ok(response) = hex::decode(alloc, response) else {
+        return false;
+    };
+    match Buf::new(alloc) {
+        Ok(mut into) => is_run(emulator, &mut into, &response),
+        Err(AllocError) => false,
+    }
+}
+
+/// Whether a step goes so, with a request in pieces of so many bytes.
+fn goes(alloc: Global, emulator: &mut Emulator, size: usize, step: &Step) -> bool
+    requires { 0 < size }
+{
+    let goes = match step {
+        Ask(request, reply) | Last(request, reply) => asks(alloc, emulator, size, request, reply),
+        Open => {
+            emulator.open_control();
+            true
+        }
+        Give(command) => gives(alloc, emulator, command),
+        Run(response) => runs(alloc, emulator, response),
+    };
+    goes && emulator.is_closed() == matches!(step, Last(..))
+}
+
+/// The number of the first step of a table that goes otherwise.
+fn first_wrong(alloc: Global, emulator: &mut Emulator, size: usize, steps: &[Step]) -> Option<usize>
+    requires { 0 < size }
+{
+    for (number, step) in steps.iter().enumerate() {
+        if !goes(alloc, emulator, size, step) {
+            return Some(number);
+        }
+    }
+    None
+}
+
+/// The same with a fresh emulator whose pieces have at most so many bytes.
+fn first_wrong_anew(
     alloc: Global,
-    emulator: &mut Emulator,
+    piece: u32,
     size: usize,
     steps: &[Step],
-) -> Result<(), Fail>
-    requires { 0 < size }
+) -> Result<Option<usize>, AllocError>
+    requires least { 1 ≤ piece }
+    requires most { piece ≤ 4096 }
+    requires size { 0 < size }
 {
-    for step in steps {
-        match step {
-            Ask(request, reply) | Last(request, reply) => {
-                ask(rt, alloc, emulator, size, request, reply)?;
-            }
-            Open => emulator.open_control(),
-            Give(command) => give(rt, alloc, emulator, command)?,
-            Run(response) => run(rt, alloc, emulator, response)?,
+    let mut emulator = Emulator::new(alloc, [0; 32], piece)?;
+    Ok(first_wrong(alloc, &mut emulator, size, steps))
+}
+
+/// What is done to fresh emulators.
+const TABLES: [&[Step]; 6] = [&FIRST, &WHILE_OFF, &STORED_ONCE, &BLOBS, &COMMANDS, &STORED];
+
+#[test]
+fn each_table_whole_and_byte_by_byte(rt: HostRuntime) -> Result<(), Fail> {
+    for (number, steps) in TABLES.iter().enumerate() {
+        for size in [4112, 1] {
+            assert!(rt; size > 0);
+            let wrong = first_wrong_anew(rt.alloc(), 4096, size, steps)?;
+            assert_eq!(rt; wrong, None, "table {number}");
         }
-        let closed = matches!(step, Last(..));
-        assert_eq!(rt; emulator.is_closed(), closed);
     }
     Ok(())
 }
 
-/// Plays a table with a fresh emulator, whole and byte by byte.
-fn plays(rt: &impl Abort, alloc: Global, steps: &[Step]) -> Result<(), Fail> {
-    let mut whole = Emulator::new(alloc, [0; 32], 4096)?;
-    play(rt, alloc, &mut whole, 4112, steps)?;
-    let mut singly = Emulator::new(alloc, [0; 32], 4096)?;
-    play(rt, alloc, &mut singly, 1, steps)
+#[test]
+fn pieces_of_seven_bytes(rt: HostRuntime) -> Result<(), Fail> {
+    assert_eq!(rt; first_wrong_anew(rt.alloc(), 7, 3, &PIECES)?, None);
+    Ok(())
 }
 
-#[test]
-fn requests(rt: HostRuntime) -> Result<(), Fail> {
-    plays(&rt, rt.alloc(), &FIRST)?;
-    plays(&rt, rt.alloc(), &WHILE_OFF)?;
-    plays(&rt, rt.alloc(), &STORED_ONCE)
-}
-
-#[test]
-fn blobs(rt: HostRuntime) -> Result<(), Fail> {
-    plays(&rt, rt.alloc(), &BLOBS)?;
-    let mut small = Emulator::new(rt.alloc(), [0; 32], 7)?;
-    play(&rt, rt.alloc(), &mut small, 3, &PIECES)
-}
-
-#[test]
-fn commands(rt: HostRuntime) -> Result<(), Fail> {
-    plays(&rt, rt.alloc(), &COMMANDS)?;
-    plays(&rt, rt.alloc(), &STORED)
+/// Whether an emulator without a TPM closes its channel in the end, and takes nothing then: it stays closed where a part
+/// is forgotten.
+fn is_closed_without_a_tpm(alloc: Global, emulator: &mut Emulator) -> bool {
+    if emulator.tpm().is_some() || first_wrong(alloc, emulator, 2, &WITHOUT).is_some() {
+        return false;
+    }
+    emulator.forget_request();
+    let mut out = Out::new();
+    let heard = emulator.control(&[0, 0, 0, 1], &mut out);
+    heard.used == 0 && heard.closed && out.bytes().is_empty()
 }
 
 #[test]
 fn without_a_tpm(rt: HostRuntime) -> Result<(), Fail> {
     let mut emulator = Emulator::empty(rt.alloc(), 4096)?;
-    assert_eq!(rt; emulator.tpm().is_none(), true);
-    play(&rt, rt.alloc(), &mut emulator, 2, &WITHOUT)?;
-
-    // A channel that is closed takes nothing, and stays closed where a part is forgotten.
-    emulator.forget_request();
-    let mut out = Out::new();
-    let heard = emulator.control(&[0, 0, 0, 1], &mut out);
-    assert_eq!(rt;
-        heard,
-        Heard {
-            used: 0,
-            closed: true
-        }
-    );
-    assert_eq!(rt; out.bytes().is_empty(), true);
+    assert!(rt; is_closed_without_a_tpm(rt.alloc(), &mut emulator));
     Ok(())
 }
 
-/// Gets a blob of one emulator, and sets it in another.
-fn copy(rt: &impl Abort, from: &mut Emulator, to: &mut Emulator, kind: u32) {
+/// Gets a blob of one emulator, and sets it in another; whether that is done.
+fn copies(from: &mut Emulator, to: &mut Emulator, kind: u32) -> bool {
     let mut out = Out::new();
     let get = Request::GetStateBlob {
         flags: 0,
@@ -394,7 +408,9 @@ fn copy(rt: &impl Abort, from: &mut Emulator, to: &mut Emulator, kind: u32) {
     let mut reply = Out::new();
     from.control(out.bytes(), &mut reply);
     let (_, blob) = reply.bytes().split_at(reply.bytes().len().min(16));
-    assert!(rt; blob.len() <= 4096);
+    if blob.len() > 4096 {
+        return false;
+    }
     let set = Request::SetStateBlob {
         flags: 0,
         kind,
@@ -404,38 +420,48 @@ fn copy(rt: &impl Abort, from: &mut Emulator, to: &mut Emulator, kind: u32) {
     write_request(&set, blob, &mut out);
     reply.clear();
     to.control(out.bytes(), &mut reply);
-    assert_eq!(rt; reply.bytes(), [0, 0, 0, 0].as_slice());
+    reply.bytes() == [0, 0, 0, 0].as_slice()
 }
 
-fn copy_all(rt: &impl Abort, from: &mut Emulator, to: &mut Emulator) {
-    for kind in 1..4 {
-        copy(rt, from, to, kind);
-    }
+fn copies_all(from: &mut Emulator, to: &mut Emulator) -> bool {
+    copies(from, to, 1) && copies(from, to, 2) && copies(from, to, 3)
+}
+
+/// Whether a TPM that is moved goes on in another emulator, and then without its volatile state.
+fn moves(alloc: Global, source: &mut Emulator, target: &mut Emulator) -> bool {
+    first_wrong(alloc, source, 4112, &EXTENDING).is_none()
+        && copies_all(source, target)
+        && first_wrong(alloc, target, 4112, &MOVED).is_none()
+        && copies_all(source, target)
+        && first_wrong(alloc, target, 4112, &DELETED).is_none()
 }
 
 #[test]
 fn a_tpm_that_moves(rt: HostRuntime) -> Result<(), Fail> {
     let mut source = Emulator::new(rt.alloc(), [0; 32], 4096)?;
-    play(&rt, rt.alloc(), &mut source, 4112, &EXTENDING)?;
     let mut target = Emulator::empty(rt.alloc(), 4096)?;
-    copy_all(&rt, &mut source, &mut target);
-    play(&rt, rt.alloc(), &mut target, 4112, &MOVED)?;
-    copy_all(&rt, &mut source, &mut target);
-    play(&rt, rt.alloc(), &mut target, 4112, &DELETED)
+    assert!(rt; moves(rt.alloc(), &mut source, &mut target));
+    Ok(())
+}
+
+/// Whether a part of a request and of a command is forgotten, and a whole command too.
+fn forgets(alloc: Global, emulator: &mut Emulator) -> bool {
+    let mut out = Out::new();
+    let begun = emulator.control(&[0, 0, 0, 2, 0], &mut out).used == 5;
+    emulator.forget_request();
+    let asked = asks(alloc, emulator, 4112, STOP, DONE);
+    let part = emulator.data(&[0x80, 1]).used == 2;
+    emulator.forget_command();
+    let given = gives(alloc, emulator, STARTUP);
+    emulator.forget_command();
+    begun && asked && part && given && runs(alloc, emulator, OFF)
 }
 
 #[test]
 fn forgotten_parts(rt: HostRuntime) -> Result<(), Fail> {
     let mut emulator = Emulator::new(rt.alloc(), [0; 32], 4096)?;
-    let mut out = Out::new();
-    assert_eq!(rt; emulator.control(&[0, 0, 0, 2, 0], &mut out).used, 5);
-    emulator.forget_request();
-    ask(&rt, rt.alloc(), &mut emulator, 4112, STOP, DONE)?;
-    assert_eq!(rt; emulator.data(&[0x80, 1]).used, 2);
-    emulator.forget_command();
-    give(&rt, rt.alloc(), &mut emulator, STARTUP)?;
-    emulator.forget_command();
-    run(&rt, rt.alloc(), &mut emulator, OFF)
+    assert!(rt; forgets(rt.alloc(), &mut emulator));
+    Ok(())
 }
 
 #[test]

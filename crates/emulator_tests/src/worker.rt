@@ -154,83 +154,42 @@ fn worked(
     Ok((steps, outcome, holds, wires.sent.as_slice().len()))
 }
 
-#[test]
-fn jobs_that_are_answered(rt: HostRuntime) -> Result<(), Fail> {
-    let alloc = rt.alloc();
-    let done = [
-        Step::Claim(NUMBER),
-        Step::Sent(NUMBER),
-        Step::Exec(NUMBER),
-        Step::Done(NUMBER),
-        Step::Idle,
-    ];
-    let refused = [0, 0xC4, 0, 0, 0, 10, 0, 0, 0, 0x1E];
-    let sessions = [0x80, 2, 0, 0, 0, 11, 0, 0, 0, 0, 1];
-    for (response, piece) in [
-        (SUCCESS.as_slice(), 4096),
-        (SUCCESS.as_slice(), 1),
-        (RANDOM.as_slice(), 4096),
-        (RANDOM.as_slice(), 1),
-        (RANDOM.as_slice(), 13),
-        (refused.as_slice(), 7),
-        (sessions.as_slice(), 4096),
-    ] {
-        let mut wires = prepared(alloc, response, piece, 0)?;
-        assert_eq!(rt;
-            worked(alloc, false, &mut wires, response)?,
-            (done, Some(Outcome::Done), true, 12)
-        );
-        assert_eq!(rt; wires.sent.as_slice(), START.as_slice());
-    }
-    Ok(())
-}
+// A refusal of a command by its tag, and a response with sessions.
+const BAD_TAG: [u8; 10] = [0, 0xC4, 0, 0, 0, 10, 0, 0, 0, 0x1E];
 
-#[test]
-fn the_longest_response(rt: HostRuntime) -> Result<(), Fail> {
-    let alloc = rt.alloc();
-    let mut response = vec![in alloc; 0x5A; 3968]?;
-    response[..10].copy_from_slice(&[0x80, 1, 0, 0, 0x0F, 0x80, 0, 0, 0, 0]);
-    let mut wires = prepared(alloc, &response, 1000, 0)?;
-    let (steps, outcome, holds, _) = worked(alloc, false, &mut wires, &response)?;
-    assert_eq!(rt; steps[3], Step::Done(NUMBER));
-    assert_eq!(rt; outcome, Some(Outcome::Done));
-    assert!(rt; holds);
-    Ok(())
-}
+const WITH_SESSIONS: [u8; 11] = [0x80, 2, 0, 0, 0, 11, 0, 0, 0, 0, 1];
 
-#[test]
-fn jobs_that_are_cancelled(rt: HostRuntime) -> Result<(), Fail> {
-    let alloc = rt.alloc();
+// The random bytes, cut in the header and behind it.
+const CUT_HEAD: [u8; 9] = [0x80, 1, 0, 0, 0, 20, 0, 0, 0];
 
-    // Before the claim: nothing is sent.
-    let mut wires = prepared(alloc, &SUCCESS, 4096, 0)?;
-    let steps = [
-        Step::Claim(NUMBER),
-        Step::Cancelled(NUMBER),
-        Step::Idle,
-        Step::Idle,
-        Step::Idle,
-    ];
-    assert_eq!(rt;
-        worked(alloc, true, &mut wires, &CANCELED)?,
-        (steps, Some(Outcome::Cancelled), true, 0)
-    );
+const CUT_REST: [u8; 19] = [
+    0x80, 1, 0, 0, 0, 20, 0, 0, 0, 0, 0, 8, 0x44, 0xB4, 0xC8, 0xF8, 0xAE, 0xB4, 0x91,
+];
 
-    // By the emulator.
-    let mut wires = prepared(alloc, &CANCELED, 4096, 0)?;
-    let steps = [
-        Step::Claim(NUMBER),
-        Step::Sent(NUMBER),
-        Step::Exec(NUMBER),
-        Step::Cancelled(NUMBER),
-        Step::Idle,
-    ];
-    assert_eq!(rt;
-        worked(alloc, false, &mut wires, &CANCELED)?,
-        (steps, Some(Outcome::Cancelled), true, 12)
-    );
-    Ok(())
-}
+// The steps of a job that is answered, and of one that is cancelled before the claim or by the emulator.
+const DONE: [Step; 5] = [
+    Step::Claim(NUMBER),
+    Step::Sent(NUMBER),
+    Step::Exec(NUMBER),
+    Step::Done(NUMBER),
+    Step::Idle,
+];
+
+const CANCELLED_BEFORE: [Step; 5] = [
+    Step::Claim(NUMBER),
+    Step::Cancelled(NUMBER),
+    Step::Idle,
+    Step::Idle,
+    Step::Idle,
+];
+
+const CANCELLED_THERE: [Step; 5] = [
+    Step::Claim(NUMBER),
+    Step::Sent(NUMBER),
+    Step::Exec(NUMBER),
+    Step::Cancelled(NUMBER),
+    Step::Idle,
+];
 
 // The steps of a job that is lost at the send, at the header of its response, and behind that.
 const LOST_AT_SEND: [Step; 5] = [
@@ -260,45 +219,213 @@ const LOST_AT_REST: [Step; 5] = [
 // The bytes that wait in the port, which come back with a job that is lost.
 const COMMAND: [u8; 13] = [0x80, 1, 0, 0, 0, 12, 0, 0, 1, 0x44, 0, 0, 0xFF];
 
-#[test]
-fn jobs_whose_calls_fail(rt: HostRuntime) -> Result<(), Fail> {
-    let alloc = rt.alloc();
-    for (response, piece, failing, steps, sent) in [
-        // The call of that number fails: the send, a receive of the header, a receive of the rest.
-        (RANDOM.as_slice(), 4096, 1, LOST_AT_SEND, 0),
-        (RANDOM.as_slice(), 4096, 2, LOST_AT_HEAD, 12),
-        (RANDOM.as_slice(), 1, 11, LOST_AT_HEAD, 12),
-        (RANDOM.as_slice(), 4096, 3, LOST_AT_REST, 12),
-        (RANDOM.as_slice(), 1, 21, LOST_AT_REST, 12),
-        // The response ends early.
-        (&RANDOM[..9], 4096, 0, LOST_AT_HEAD, 12),
-        (&RANDOM[..19], 4096, 0, LOST_AT_REST, 12),
-    ] {
-        let mut wires = prepared(alloc, response, piece, failing)?;
-        assert_eq!(rt;
-            worked(alloc, false, &mut wires, &COMMAND)?,
-            (steps, Some(Outcome::Lost), true, sent)
-        );
+// Whether the job is cancelled at the claim; the response that the wires give, how many bytes of it come at once at most,
+// and the number of the call that fails, if it isn't 0; the steps, the outcome, what the buffer holds then,
+// and how many bytes are sent.
+type Row = (
+    bool,
+    &'static [u8],
+    usize,
+    u64,
+    [Step; 5],
+    Outcome,
+    &'static [u8],
+    usize,
+);
+
+const JOBS: [Row; 20] = [
+    (false, &SUCCESS, 4096, 0, DONE, Outcome::Done, &SUCCESS, 12),
+    (false, &SUCCESS, 1, 0, DONE, Outcome::Done, &SUCCESS, 12),
+    (false, &RANDOM, 4096, 0, DONE, Outcome::Done, &RANDOM, 12),
+    (false, &RANDOM, 1, 0, DONE, Outcome::Done, &RANDOM, 12),
+    (false, &RANDOM, 13, 0, DONE, Outcome::Done, &RANDOM, 12),
+    (false, &BAD_TAG, 7, 0, DONE, Outcome::Done, &BAD_TAG, 12),
+    (
+        false,
+        &WITH_SESSIONS,
+        4096,
+        0,
+        DONE,
+        Outcome::Done,
+        &WITH_SESSIONS,
+        12,
+    ),
+    // Before the claim: nothing is sent.
+    (
+        true,
+        &SUCCESS,
+        4096,
+        0,
+        CANCELLED_BEFORE,
+        Outcome::Cancelled,
+        &CANCELED,
+        0,
+    ),
+    (
+        false,
+        &CANCELED,
+        4096,
+        0,
+        CANCELLED_THERE,
+        Outcome::Cancelled,
+        &CANCELED,
+        12,
+    ),
+    // The call of that number fails: the send, a receive of the header, a receive of the rest.
+    (
+        false,
+        &RANDOM,
+        4096,
+        1,
+        LOST_AT_SEND,
+        Outcome::Lost,
+        &COMMAND,
+        0,
+    ),
+    (
+        false,
+        &RANDOM,
+        4096,
+        2,
+        LOST_AT_HEAD,
+        Outcome::Lost,
+        &COMMAND,
+        12,
+    ),
+    (
+        false,
+        &RANDOM,
+        1,
+        11,
+        LOST_AT_HEAD,
+        Outcome::Lost,
+        &COMMAND,
+        12,
+    ),
+    (
+        false,
+        &RANDOM,
+        4096,
+        3,
+        LOST_AT_REST,
+        Outcome::Lost,
+        &COMMAND,
+        12,
+    ),
+    (
+        false,
+        &RANDOM,
+        1,
+        21,
+        LOST_AT_REST,
+        Outcome::Lost,
+        &COMMAND,
+        12,
+    ),
+    // The response ends early.
+    (
+        false,
+        &CUT_HEAD,
+        4096,
+        0,
+        LOST_AT_HEAD,
+        Outcome::Lost,
+        &COMMAND,
+        12,
+    ),
+    (
+        false,
+        &CUT_REST,
+        4096,
+        0,
+        LOST_AT_REST,
+        Outcome::Lost,
+        &COMMAND,
+        12,
+    ),
+    // No header of a response: tag 0x8003; sizes 9, 3969 and 16,777,226.
+    (
+        false,
+        &[0x80, 3, 0, 0, 0, 10, 0, 0, 0, 0],
+        4096,
+        0,
+        LOST_AT_HEAD,
+        Outcome::Lost,
+        &COMMAND,
+        12,
+    ),
+    (
+        false,
+        &[0x80, 1, 0, 0, 0, 9, 0, 0, 0, 0],
+        4096,
+        0,
+        LOST_AT_HEAD,
+        Outcome::Lost,
+        &COMMAND,
+        12,
+    ),
+    (
+        false,
+        &[0x80, 1, 0, 0, 0x0F, 0x81, 0, 0, 0, 0],
+        4096,
+        0,
+        LOST_AT_HEAD,
+        Outcome::Lost,
+        &COMMAND,
+        12,
+    ),
+    (
+        false,
+        &[0x80, 1, 1, 0, 0, 10, 0, 0, 0, 0],
+        4096,
+        0,
+        LOST_AT_HEAD,
+        Outcome::Lost,
+        &COMMAND,
+        12,
+    ),
+];
+
+// Whether what is sent is the start, or nothing.
+fn has_sent_the_start(wires: &Script) -> bool {
+    let sent = wires.sent.as_slice();
+    sent.is_empty() || sent == START.as_slice()
+}
+
+// Whether a job goes so.
+fn goes(alloc: Global, row: &Row) -> Result<bool, AllocError> {
+    let (cancelled, response, piece, failing, steps, outcome, held, sent) = *row;
+    let mut wires = prepared(alloc, response, piece, failing)?;
+    let came = worked(alloc, cancelled, &mut wires, held)?;
+    Ok(came == (steps, Some(outcome), true, sent) && has_sent_the_start(&wires))
+}
+
+// The number of the first job that goes otherwise.
+fn wrong_job(alloc: Global) -> Result<Option<usize>, AllocError> {
+    for (number, row) in JOBS.iter().enumerate() {
+        if !goes(alloc, row)? {
+            return Ok(Some(number));
+        }
     }
-    Ok(())
+    Ok(None)
 }
 
 #[test]
-fn bytes_that_are_no_header(rt: HostRuntime) -> Result<(), Fail> {
-    let alloc = rt.alloc();
-    for head in [
-        // Tag 0x8003; sizes 9, 3969 and 16,777,226.
-        [0x80, 3, 0, 0, 0, 10, 0, 0, 0, 0],
-        [0x80, 1, 0, 0, 0, 9, 0, 0, 0, 0],
-        [0x80, 1, 0, 0, 0x0F, 0x81, 0, 0, 0, 0],
-        [0x80, 1, 1, 0, 0, 10, 0, 0, 0, 0],
-    ] {
-        let mut wires = prepared(alloc, &head, 4096, 0)?;
-        assert_eq!(rt;
-            worked(alloc, false, &mut wires, &COMMAND)?,
-            (LOST_AT_HEAD, Some(Outcome::Lost), true, 12)
-        );
-    }
+fn each_job(rt: HostRuntime) -> Result<(), Fail> {
+    assert_eq!(rt; wrong_job(rt.alloc())?, None);
+    Ok(())
+}
+
+// The header of a response of 3968 bytes.
+const LONGEST: [u8; 10] = [0x80, 1, 0, 0, 0x0F, 0x80, 0, 0, 0, 0];
+
+#[test]
+fn the_longest_response(rt: HostRuntime) -> Result<(), Fail> {
+    let mut response = [0x5A; LARGEST_FRAME];
+    response[..10].copy_from_slice(&LONGEST);
+    let mut wires = prepared(rt.alloc(), &response, 1000, 0)?;
+    let came = worked(rt.alloc(), false, &mut wires, &response)?;
+    assert!(rt; came == (DONE, Some(Outcome::Done), true, 12));
     Ok(())
 }
 

@@ -9,7 +9,7 @@ use crb_regs::Phase;
 use device_record::{RECORD_ROOM, write_record};
 use saved_stream::*;
 use state_blobs::{LARGEST_BLOB, piece};
-use std::alloc::Global;
+use std::alloc::{AllocError, Global};
 use std::process::Abort;
 use std::test::*;
 use tpm_core::Tpm;
@@ -37,7 +37,7 @@ fn powered() -> Tpm {
 }
 
 /// A started TPM whose state is saved.
-fn kept(alloc: Global) -> Result<Tpm, Fail> {
+fn kept(alloc: Global) -> Result<Tpm, AllocError> {
     let mut tpm = powered();
     let mut into = Buf::new(alloc)?;
     tpm.execute(&STARTUP, &mut into);
@@ -55,7 +55,7 @@ fn held(rt: &impl Abort, alloc: Global) -> Result<Device<PlainPort>, Fail>
 }
 
 /// The stream of a device and a TPM.
-fn written(alloc: Global, device: &Device<PlainPort>, tpm: &Tpm) -> Result<Vec<u8>, Fail> {
+fn written(alloc: Global, device: &Device<PlainPort>, tpm: &Tpm) -> Result<Vec<u8>, AllocError> {
     let mut stream = Vec::new(alloc);
     if !device.is_held() || device.phase() == Phase::Lost {
         return Ok(stream);
@@ -207,28 +207,45 @@ fn judged(bytes: &[u8]) -> Result<(), Fault> {
     Ok(())
 }
 
-/// Bytes are read as a stream, or refused, as the rules say; and what was read is written as the same bytes.
-fn read(rt: &impl Abort, alloc: Global, bytes: &[u8]) -> Result<Result<(), Fault>, Fail> {
-    let mut device = held(rt, alloc)?;
-    let read = match read_stream(alloc, bytes, &mut device)? {
+/// How bytes are read as a stream, unless what was read is written as other bytes.
+fn read(
+    alloc: Global,
+    device: &mut Device<PlainPort>,
+    bytes: &[u8],
+) -> Result<Option<Result<(), Fault>>, AllocError> {
+    if !device.is_held() {
+        return Ok(None);
+    }
+    match read_stream(alloc, bytes, device)? {
         Ok(tpm) => {
-            let again = written(alloc, &device, &tpm)?;
-            assert!(rt; again.as_slice() == bytes);
-            Ok(())
+            let again = written(alloc, device, &tpm)?;
+            Ok((again.as_slice() == bytes).then_some(Ok(())))
         }
-        Err(fault) => Err((fault.why, fault.place as usize)),
-    };
-    assert_eq!(rt; read, judged(bytes));
-    Ok(read)
+        Err(fault) => Ok(Some(Err((fault.why, fault.place as usize)))),
+    }
+}
+
+/// Whether bytes are read so, and as the rules say.
+fn is_read(
+    alloc: Global,
+    device: &mut Device<PlainPort>,
+    bytes: &[u8],
+    wanted: Result<(), Fault>,
+) -> Result<bool, AllocError> {
+    Ok(read(alloc, device, bytes)? == Some(wanted) && judged(bytes) == wanted)
 }
 
 #[test]
 fn a_fresh_stream_both_ways(rt: HostRuntime) -> Result<(), Fail> {
-    let device = held(&rt, rt.alloc())?;
+    let mut device = held(&rt, rt.alloc())?;
     let stream = written(rt.alloc(), &device, &powered())?;
     assert!(rt; stream.as_slice() == FRESH.as_slice());
-    assert_eq!(rt; read(&rt, rt.alloc(), &FRESH)?, Ok(()));
-    // Behind what is there already.
+    assert!(rt; is_read(rt.alloc(), &mut device, &FRESH, Ok(()))?);
+    Ok(())
+}
+
+#[test]
+fn a_stream_is_written_behind_what_is_there(rt: HostRuntime) -> Result<(), Fail> {
     let mut stream = vec![in rt.alloc(); 7, 8]?;
     write_stream(&[1], &[], &[2, 3], &[], &mut stream)?;
     assert!(rt;
@@ -237,24 +254,45 @@ fn a_fresh_stream_both_ways(rt: HostRuntime) -> Result<(), Fail> {
     Ok(())
 }
 
+/// How many bytes the first front has that isn't cut at its end.
+fn wrong_front(alloc: Global, device: &mut Device<PlainPort>) -> Result<Option<usize>, AllocError> {
+    for n in 0..FRESH.len() {
+        let front = FRESH.get(..n).unwrap_or(&[]);
+        if !is_read(alloc, device, front, Err((Why::Cut, n)))? {
+            return Ok(Some(n));
+        }
+    }
+    Ok(None)
+}
+
+/// The first place, and the bits changed there, that is read otherwise than by the rules.
+fn wrong_change(
+    alloc: Global,
+    device: &mut Device<PlainPort>,
+) -> Result<Option<(usize, u8)>, AllocError> {
+    for place in 0..FRESH.len() {
+        for bits in [1, 2, 4, 0x0F, 0x80, 0xFF] {
+            let mut bytes = FRESH;
+            bytes[place] ^= bits;
+            if read(alloc, device, &bytes)? != Some(judged(&bytes)) {
+                return Ok(Some((place, bits)));
+            }
+        }
+    }
+    Ok(None)
+}
+
 #[test]
 fn each_front_is_cut(rt: HostRuntime) -> Result<(), Fail> {
-    for n in 0..FRESH.len() {
-        let read = read(&rt, rt.alloc(), &FRESH[..n])?;
-        assert_eq!(rt; read, Err((Why::Cut, n)));
-    }
+    let mut device = held(&rt, rt.alloc())?;
+    assert_eq!(rt; wrong_front(rt.alloc(), &mut device)?, None);
     Ok(())
 }
 
 #[test]
 fn each_byte_changed(rt: HostRuntime) -> Result<(), Fail> {
-    for place in 0..FRESH.len() {
-        for bits in [1, 2, 4, 0x0F, 0x80, 0xFF] {
-            let mut bytes = FRESH;
-            bytes[place] ^= bits;
-            let _read = read(&rt, rt.alloc(), &bytes)?;
-        }
-    }
+    let mut device = held(&rt, rt.alloc())?;
+    assert_eq!(rt; wrong_change(rt.alloc(), &mut device)?, None);
     Ok(())
 }
 
@@ -279,19 +317,6 @@ const REFUSALS: [((usize, u8), (usize, u8), usize, Why, usize); 14] = [
     ((100, 1), (0, 0x43), 102, Why::Value, 100),
 ];
 
-#[test]
-fn refusals(rt: HostRuntime) -> Result<(), Fail> {
-    for (first, second, count, why, place) in REFUSALS {
-        let mut bytes = [0; 110];
-        bytes[..101].copy_from_slice(&FRESH);
-        changed(&mut bytes, first);
-        changed(&mut bytes, second);
-        let read = read(&rt, rt.alloc(), bytes.get(..count).unwrap_or(&[]))?;
-        assert_eq!(rt; read, Err((why, place)));
-    }
-    Ok(())
-}
-
 /// Another byte at a place.
 fn changed(bytes: &mut [u8], (place, byte): (usize, u8)) {
     if let Some(slot) = bytes.get_mut(place) {
@@ -299,9 +324,30 @@ fn changed(bytes: &mut [u8], (place, byte): (usize, u8)) {
     }
 }
 
-/// A record with one content byte of 0: its last byte is refused before the length of the stream is looked at.
-#[test]
-fn a_last_zero_before_the_length(rt: HostRuntime) -> Result<(), Fail> {
+/// The first of the refusals that is read otherwise.
+fn wrong_refusal(
+    alloc: Global,
+    device: &mut Device<PlainPort>,
+) -> Result<Option<usize>, AllocError> {
+    for (row, (first, second, count, why, place)) in REFUSALS.iter().enumerate() {
+        let mut bytes = [0; 110];
+        bytes[..101].copy_from_slice(&FRESH);
+        changed(&mut bytes, *first);
+        changed(&mut bytes, *second);
+        let front = bytes.get(..*count).unwrap_or(&[]);
+        if !is_read(alloc, device, front, Err((*why, *place)))? {
+            return Ok(Some(row));
+        }
+    }
+    Ok(None)
+}
+
+/// Whether a record with one content byte of 0 is refused by that byte before the length of the stream is looked at, and
+/// read where the byte is another.
+fn is_judged_by_its_last_byte(
+    alloc: Global,
+    device: &mut Device<PlainPort>,
+) -> Result<bool, AllocError> {
     let mut bytes = [0; 102];
     bytes[..32].copy_from_slice(&FRESH[..32]);
     bytes[33..].copy_from_slice(&FRESH[32..]);
@@ -309,81 +355,137 @@ fn a_last_zero_before_the_length(rt: HostRuntime) -> Result<(), Fail> {
     bytes[17] = 0x0F;
     bytes[20] = 1;
     bytes[31] = 1;
-    assert_eq!(rt; read(&rt, rt.alloc(), &bytes)?, Err((Why::Value, 32)));
+    let refused = is_read(alloc, device, &bytes, Err((Why::Value, 32)))?;
     bytes[32] = 9;
-    assert_eq!(rt; read(&rt, rt.alloc(), &bytes)?, Ok(()));
+    Ok(refused && is_read(alloc, device, &bytes, Ok(()))?)
+}
+
+#[test]
+fn refusals(rt: HostRuntime) -> Result<(), Fail> {
+    let mut device = held(&rt, rt.alloc())?;
+    assert_eq!(rt; wrong_refusal(rt.alloc(), &mut device)?, None);
+    assert!(rt; is_judged_by_its_last_byte(rt.alloc(), &mut device)?);
     Ok(())
+}
+
+/// The stream of a device after a reset over a TPM whose state is saved.
+fn kept_stream(alloc: Global, device: &Device<PlainPort>) -> Result<Vec<u8>, AllocError> {
+    let tpm = kept(alloc)?;
+    written(alloc, device, &tpm)
+}
+
+/// The first of these places at which another byte is told otherwise than as the first place that differs; 0 where the
+/// stream isn't read as it is.
+fn wrong_disagreement(
+    alloc: Global,
+    device: &mut Device<PlainPort>,
+    stream: &mut Vec<u8>,
+) -> Result<Option<usize>, AllocError> {
+    let whole = stream.len() == 9 + 23 + 49 + 790 + 526;
+    if !whole || !is_read(alloc, device, stream, Ok(()))? {
+        return Ok(Some(0));
+    }
+    // Of the counter and of registers, the last first.
+    for place in [1396, 1000, 885, 884, 881] {
+        changed(stream, (place, 0x40));
+        if !is_read(alloc, device, stream, Err((Why::Value, place)))? {
+            return Ok(Some(place));
+        }
+    }
+    Ok(None)
 }
 
 #[test]
 fn a_saved_state_that_disagrees(rt: HostRuntime) -> Result<(), Fail> {
-    let tpm = kept(rt.alloc())?;
-    let device = held(&rt, rt.alloc())?;
-    let mut stream = written(rt.alloc(), &device, &tpm)?;
-    assert_eq!(rt; stream.len(), 9 + 23 + 49 + 790 + 526);
-    assert_eq!(rt; read(&rt, rt.alloc(), &stream)?, Ok(()));
-    // The first place that differs, of the counter and of registers.
-    for place in [1396, 1000, 885, 884, 881] {
-        changed(&mut stream, (place, 0x40));
-        assert_eq!(rt; read(&rt, rt.alloc(), &stream)?, Err((Why::Value, place)));
-    }
+    let mut device = held(&rt, rt.alloc())?;
+    let mut stream = kept_stream(rt.alloc(), &device)?;
+    assert_eq!(rt;
+        wrong_disagreement(rt.alloc(), &mut device, &mut stream)?,
+        None
+    );
     Ok(())
 }
 
-/// A byte behind such a stream comes later, another length earlier.
+/// Whether a byte behind such a stream comes later than a disagreement, and another length earlier.
+fn is_in_order(
+    alloc: Global,
+    device: &mut Device<PlainPort>,
+    stream: &mut Vec<u8>,
+) -> Result<bool, AllocError> {
+    let extra = is_read(alloc, device, stream, Err((Why::Extra, 1397)))?;
+    changed(stream, (881, 0x40));
+    let value = is_read(alloc, device, stream, Err((Why::Value, 881)))?;
+    changed(stream, (8, 0));
+    Ok(extra && value && is_read(alloc, device, stream, Err((Why::Length, 5)))?)
+}
+
 #[test]
 fn a_disagreement_in_its_order(rt: HostRuntime) -> Result<(), Fail> {
-    let tpm = kept(rt.alloc())?;
-    let device = held(&rt, rt.alloc())?;
-    let mut stream = written(rt.alloc(), &device, &tpm)?;
+    let mut device = held(&rt, rt.alloc())?;
+    let mut stream = kept_stream(rt.alloc(), &device)?;
     stream.push(0)?;
-    assert_eq!(rt; read(&rt, rt.alloc(), &stream)?, Err((Why::Extra, 1397)));
-    changed(&mut stream, (881, 0x40));
-    assert_eq!(rt; read(&rt, rt.alloc(), &stream)?, Err((Why::Value, 881)));
-    changed(&mut stream, (8, 0));
-    assert_eq!(rt; read(&rt, rt.alloc(), &stream)?, Err((Why::Length, 5)));
+    assert!(rt; is_in_order(rt.alloc(), &mut device, &mut stream)?);
     Ok(())
 }
 
+/// How many bytes of the fresh stream are there, and how many are asked for then: at the fields, in their midst, and at
+/// the end.
+const ASKED: [(usize, u32); 15] = [
+    (0, 9),
+    (9, 9),
+    (18, 14),
+    (32, 9),
+    (41, 40),
+    (81, 9),
+    (90, 1),
+    (91, 9),
+    (100, 1),
+    (101, 0),
+    (1, 8),
+    (8, 1),
+    (10, 8),
+    (20, 12),
+    (99, 1),
+];
+
+/// A place of the fresh stream and the bits that are changed there, and how many bytes are asked for once the header or
+/// body is whole: none where a header is refused; the length of the head isn't looked at.
+const CHANGED: [(usize, u8, u32); 9] = [
+    (0, 1, 0),
+    (4, 1, 0),
+    (8, 1, 9),
+    (12, 1, 0),
+    (16, 1, 270),
+    (17, 0x70, 126),
+    (17, 3, 0),
+    (40, 1, 0),
+    (90, 1, 9),
+];
+
+/// Whether so many bytes are asked for behind the changed header or body, and one before its last byte.
+fn is_asked_for(place: usize, bits: u8, count: u32) -> bool {
+    let mut bytes = FRESH;
+    changed(&mut bytes, (place, FRESH.get(place).unwrap_or(&0) ^ bits));
+    let end = [9usize, 18, 41, 91].into_iter().find(|end| *end > place);
+    let end = end.unwrap_or(0);
+    wanted(bytes.get(..end).unwrap_or(&[])) == count
+        && wanted(bytes.get(..end.saturating_sub(1)).unwrap_or(&[])) == 1
+}
+
 #[test]
-fn how_many_bytes_to_ask_for(rt: HostRuntime) -> Result<(), Fail> {
-    let mut at = 0usize;
-    for count in [9, 9, 14, 9, 40, 9, 1, 9, 1, 0] {
-        assert_eq!(rt; wanted(FRESH.get(..at).unwrap_or(&[])), count);
-        at = at.saturating_add(count as usize);
-    }
-    assert_eq!(rt; at, FRESH.len());
-    // In the midst of a header or a body, and past the end.
-    for (begun, count) in [(1, 8), (8, 1), (10, 8), (20, 12), (100, 1)] {
-        assert_eq!(rt; wanted(FRESH.get(..begun).unwrap_or(&[])), count);
-    }
-    let mut bytes = [0; 102];
-    bytes[..101].copy_from_slice(&FRESH);
-    assert_eq!(rt; wanted(&bytes), 0);
-    // Headers that are refused, once they are whole; the length of the head isn't looked at.
-    for (place, bits, count) in [
-        (0, 1, 0),
-        (4, 1, 0),
-        (8, 1, 9),
-        (12, 1, 0),
-        (16, 1, 270),
-        (17, 0x70, 126),
-        (17, 3, 0),
-        (40, 1, 0),
-        (90, 1, 9),
-    ] {
-        let mut bytes = FRESH;
-        bytes[place] ^= bits;
-        // Up to the end of the header, or of the body.
-        let end = [9usize, 18, 41, 91].into_iter().find(|end| *end > place);
-        let end = end.unwrap_or(0);
-        assert_eq!(rt; wanted(bytes.get(..end).unwrap_or(&[])), count);
-        assert_eq!(rt;
-            wanted(bytes.get(..end.saturating_sub(1)).unwrap_or(&[])),
-            1
+fn how_many_bytes_to_ask_for(rt: HostRuntime) {
+    for (there, count) in ASKED {
+        assert!(rt;
+            wanted(FRESH.get(..there).unwrap_or(&[])) == count,
+            "{there}"
         );
     }
-    Ok(())
+    for (place, bits, count) in CHANGED {
+        assert!(rt; is_asked_for(place, bits, count), "{place}");
+    }
+    let mut longer = [0; 102];
+    longer[..101].copy_from_slice(&FRESH);
+    assert!(rt; wanted(&longer) == 0);
 }
 
 #[test]

@@ -8,7 +8,7 @@ use std::alloc::{AllocError, Global};
 use vt_base::Bytes;
 
 /// What a message says, but for the bytes of a piece.
-#[derive(Clone, Copy, Debug, PartialEq, Eq)]
+#[derive(Clone, Copy)]
 pub(crate) enum Shape {
     Offer { totals: [u32; 4] },
     Need { part: Part, offset: u32 },
@@ -20,7 +20,7 @@ pub(crate) enum Shape {
 }
 
 /// A message, but for the bytes of a piece: what a judge can tell with no memory of its own.
-#[derive(Clone, Copy, Debug, PartialEq, Eq)]
+#[derive(Clone, Copy)]
 pub(crate) struct Outline {
     pub to: HostName,
     pub epoch: u64,

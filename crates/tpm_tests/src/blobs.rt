@@ -1,11 +1,10 @@
 //! Blobs of TPMs byte by byte, and what gathers refuse. The expected bytes come from the table of fields and from worked
 //! values of registers, and not from this crate.
 
-ghost use Rattle.std.specs.Prelude.{◌≡◌, IfOk};
+ghost use Rattle.std.specs.Prelude.{◌≡◌, ◌<◌, IfOk, IfSome, length};
 
 use state_blobs::*;
-use std::alloc::Global;
-use std::process::Abort;
+use std::alloc::{AllocError, Global};
 use std::test::*;
 use tpm_core::Tpm;
 use vt_base::{Buf, Kind, Malformed, Why};
@@ -66,58 +65,85 @@ fn running(alloc: Global) -> Result<Tpm, Fail> {
     Ok(tpm)
 }
 
-fn gathered(rt: &impl Abort, alloc: Global, kind: Kind, bytes: &[u8]) -> Result<Gather, Fail>
-    ensures { IfOk result (λ gather. gather.kind ≡ kind) }
+/// A gather that took these bytes, unless it refuses them.
+fn gathered(alloc: Global, kind: Kind, bytes: &[u8]) -> Result<Option<Gather>, AllocError>
+    ensures { IfOk result (λ made. IfSome made (λ gather. gather.kind ≡ kind)) }
 {
     let mut gather = Gather::new(alloc, kind)?;
-    let taken = gather.push(bytes);
-    assert!(rt; taken.is_ok());
-    Ok(gather)
+    let is_taken = gather.push(bytes).is_ok();
+    Ok(is_taken.then_some(gather))
 }
+
+/// Whether a TPM gives a blob whole, with nothing written behind it, and none past its end.
+fn is_given_whole(tpm: &Tpm, kind: Kind, blob: &[u8]) -> bool
+    requires { length blob.now < 60 }
+{
+    let total = blob.len() as u32;
+    let mut into = [0xEE; 60];
+    let whole = Piece {
+        total,
+        length: total,
+    };
+    let end = Piece { total, length: 0 };
+    let given = piece(tpm, kind, 0, &mut into) == Some(whole)
+        && into.get(..blob.len()) == Some(blob)
+        && into.iter().skip(blob.len()).all(|b| *b == 0xEE);
+    given
+        && piece(tpm, kind, total, &mut into) == Some(end)
+        && piece(tpm, kind, total.saturating_add(1), &mut into) == None
+        && piece(tpm, kind, u32::MAX, &mut into) == None
+        && into.get(..blob.len()) == Some(blob)
+}
+
+/// Whether a TPM gives a blob byte by byte.
+fn is_given_singly(tpm: &Tpm, kind: Kind, blob: &[u8]) -> bool
+    requires { length blob.now < 60 }
+{
+    let total = blob.len() as u32;
+    for (offset, byte) in blob.iter().enumerate() {
+        let mut one = [0xEE];
+        let given = piece(tpm, kind, offset as u32, &mut one);
+        if given != Some(Piece { total, length: 1 }) || one[0] != *byte {
+            return false;
+        }
+    }
+    true
+}
+
+/// Whether a gather takes a blob whole, and byte by byte with empty pieces between.
+fn is_gathered(gather: &mut Gather, blob: &[u8]) -> bool {
+    if gather.push(blob) != Ok(true) || !gather.is_whole() || gather.begun() != blob {
+        return false;
+    }
+    gather.clear();
+    if !gather.is_empty() {
+        return false;
+    }
+    for i in 0..blob.len() {
+        let is_last = i + 1 == blob.len();
+        if gather.push(&[]) != Ok(false) || gather.push(&blob[i..i + 1]) != Ok(is_last) {
+            return false;
+        }
+    }
+    gather.push(&[]) == Ok(true)
+}
+
+/// The blobs of a TPM that power came to once.
+const BLOBS: [(Kind, &[u8]); 3] = [
+    (Kind::Permanent, &PERMANENT),
+    (Kind::Volatile, &STOPPED),
+    (Kind::Saved, &NO_STATE),
+];
 
 #[test]
 fn pieces_of_a_new_tpm(rt: HostRuntime) -> Result<(), Fail> {
     let tpm = powered();
-    for (kind, total, blob) in [
-        (Kind::Permanent, 49, PERMANENT.as_slice()),
-        (Kind::Volatile, 10, &STOPPED),
-        (Kind::Saved, 10, &NO_STATE),
-    ] {
-        let mut into = [0xEE; 60];
-        let whole = Piece {
-            total,
-            length: total,
-        };
-        assert_eq!(rt; piece(&tpm, kind, 0, &mut into), Some(whole));
-        assert!(rt; into.get(..blob.len()) == Some(blob));
-        assert!(rt; into.iter().skip(blob.len()).all(|b| *b == 0xEE));
-        for offset in 0..total {
-            let mut one = [0xEE];
-            assert_eq!(rt;
-                piece(&tpm, kind, offset, &mut one),
-                Some(Piece { total, length: 1 })
-            );
-            assert!(rt; blob.get(offset as usize) == Some(&one[0]), "at {offset}");
-        }
-        let mut one = [0xEE];
-        assert_eq!(rt;
-            piece(&tpm, kind, total, &mut one),
-            Some(Piece { total, length: 0 })
-        );
-        assert_eq!(rt; piece(&tpm, kind, total.saturating_add(1), &mut one), None);
-        assert_eq!(rt; piece(&tpm, kind, u32::MAX, &mut one), None);
-        assert_eq!(rt; one[0], 0xEE);
-
-        // Gathered whole, and byte by byte with empty pieces between.
-        let mut gather = gathered(&rt, rt.alloc(), kind, blob)?;
-        assert!(rt; gather.is_whole() && gather.begun() == blob);
-        gather.clear();
-        assert!(rt; gather.is_empty());
-        for i in 0..blob.len() {
-            assert_eq!(rt; gather.push(&[]), Ok(false));
-            assert_eq!(rt; gather.push(&blob[i..i + 1]), Ok(i + 1 == blob.len()));
-        }
-        assert_eq!(rt; gather.push(&[]), Ok(true));
+    for (kind, blob) in BLOBS {
+        assert!(rt; blob.len() < 60);
+        assert!(rt; is_given_whole(&tpm, kind, blob), "{kind:?}");
+        assert!(rt; is_given_singly(&tpm, kind, blob), "{kind:?}");
+        let mut gather = Gather::new(rt.alloc(), kind)?;
+        assert!(rt; is_gathered(&mut gather, blob), "{kind:?}");
     }
     Ok(())
 }
@@ -127,94 +153,124 @@ fn are(bytes: &[u8], from: usize, count: usize, byte: u8) -> bool {
     bytes.iter().skip(from).take(count).all(|b| *b == byte)
 }
 
-#[test]
-fn blobs_of_a_started_tpm(rt: HostRuntime) -> Result<(), Fail> {
-    let tpm = running(rt.alloc())?;
+/// The volatile blob of a started TPM, and that of its saved state, as the TPM gives them.
+#[derive(Clone, Copy)]
+struct StartedBlobs {
+    volatile: [u8; 790],
+    saved: [u8; 526],
+}
+
+fn given(tpm: &Tpm) -> Option<StartedBlobs> {
     let mut volatile = [0; 790];
+    let mut saved = [0; 526];
     let all = Piece {
         total: 790,
         length: 790,
     };
-    assert_eq!(rt; piece(&tpm, Kind::Volatile, 0, &mut volatile), Some(all));
-    assert!(rt; volatile.get(..22) == Some(RUNNING.as_slice()));
-    assert!(rt; volatile.get(22..54) == Some(EXTENDED.as_slice()));
-    assert!(rt; are(&volatile, 54, 512, 0) && are(&volatile, 566, 192, 0xFF));
-    assert!(rt; are(&volatile, 758, 32, 0));
-    let mut saved = [0; 526];
-    let all = Piece {
+    let all_saved = Piece {
         total: 526,
         length: 526,
     };
-    assert_eq!(rt; piece(&tpm, Kind::Saved, 0, &mut saved), Some(all));
-    assert!(rt; saved.get(..14) == Some(SAVED.as_slice()));
-    assert!(rt; saved.get(14..46) == Some(EXTENDED.as_slice()));
-    assert!(rt; are(&saved, 46, 480, 0));
+    let is_whole = piece(tpm, Kind::Volatile, 0, &mut volatile) == Some(all)
+        && piece(tpm, Kind::Saved, 0, &mut saved) == Some(all_saved);
+    is_whole.then_some(StartedBlobs { volatile, saved })
+}
+
+/// Those of the TPM that is running.
+fn given_by_running(alloc: Global) -> Result<StartedBlobs, Fail> {
+    let tpm = running(alloc)?;
+    Ok(given(&tpm).ok_or("the blobs")?)
+}
+
+fn are_of_running(blobs: &StartedBlobs) -> bool {
+    let volatile = &blobs.volatile;
+    let saved = &blobs.saved;
+    volatile.get(..22) == Some(RUNNING.as_slice())
+        && volatile.get(22..54) == Some(EXTENDED.as_slice())
+        && are(volatile, 54, 512, 0)
+        && are(volatile, 566, 192, 0xFF)
+        && are(volatile, 758, 32, 0)
+        && saved.get(..14) == Some(SAVED.as_slice())
+        && saved.get(14..46) == Some(EXTENDED.as_slice())
+        && are(saved, 46, 480, 0)
+}
+
+#[test]
+fn blobs_of_a_started_tpm(rt: HostRuntime) -> Result<(), Fail> {
+    let blobs = given_by_running(rt.alloc())?;
+    assert!(rt; are_of_running(&blobs));
     Ok(())
 }
 
-/// Both have the same blobs.
-fn same_blobs(rt: &impl Abort, tpm: &Tpm, other: &Tpm) {
-    for kind in [Kind::Permanent, Kind::Volatile, Kind::Saved] {
-        let mut one = [0; 790];
-        let mut two = [0; 790];
-        assert_eq!(rt;
-            piece(tpm, kind, 0, &mut one),
-            piece(other, kind, 0, &mut two)
-        );
-        assert!(rt; one == two);
-    }
+/// Whether the TPM that is made of these blobs has the values and the blobs of the one that is running.
+fn is_made_of(other: &Tpm, blobs: &StartedBlobs) -> bool {
+    let parts = other.parts();
+    let mut permanent = [0; 49];
+    let all = Piece {
+        total: 49,
+        length: 49,
+    };
+    let same = match given(other) {
+        Some(again) => again.volatile == blobs.volatile && again.saved == blobs.saved,
+        None => false,
+    };
+    same && piece(other, Kind::Permanent, 0, &mut permanent) == Some(all)
+        && permanent == PERMANENT
+        && parts.seed == [0; 32]
+        && parts.boots == 1
+        && parts.draws == 0
+        && parts.started
+        && parts.counter == 1
+        && parts.saved.is_some()
+        && parts.pcr[0] == EXTENDED
+        && parts.pcr[17] == [0xFF; 32]
+}
+
+/// What comes of gathers that took these bytes, unless one refuses them.
+fn assembled(
+    alloc: Global,
+    permanent: &[u8],
+    volatile: &[u8],
+    saved: &[u8],
+) -> Result<Option<Result<Tpm, BlobFault>>, AllocError> {
+    let Some(p) = gathered(alloc, Kind::Permanent, permanent)? else {
+        return Ok(None);
+    };
+    let Some(v) = gathered(alloc, Kind::Volatile, volatile)? else {
+        return Ok(None);
+    };
+    let Some(z) = gathered(alloc, Kind::Saved, saved)? else {
+        return Ok(None);
+    };
+    Ok(Some(assemble(&p, &v, &z)))
 }
 
 #[test]
 fn a_tpm_from_its_blobs(rt: HostRuntime) -> Result<(), Fail> {
-    let tpm = running(rt.alloc())?;
-    let mut volatile = [0; 790];
-    let mut saved = [0; 526];
-    piece(&tpm, Kind::Volatile, 0, &mut volatile);
-    piece(&tpm, Kind::Saved, 0, &mut saved);
-    let p = gathered(&rt, rt.alloc(), Kind::Permanent, &PERMANENT)?;
-    let v = gathered(&rt, rt.alloc(), Kind::Volatile, &volatile)?;
-    let z = gathered(&rt, rt.alloc(), Kind::Saved, &saved)?;
-    let made = assemble(&p, &v, &z);
-    assert!(rt; made.is_ok());
-    if let Ok(other) = made {
-        let parts = other.parts();
-        assert!(rt; parts.seed == [0; 32] && parts.boots == 1 && parts.draws == 0);
-        assert!(rt; parts.started && parts.counter == 1 && parts.saved.is_some());
-        assert!(rt; parts.pcr[0] == EXTENDED && parts.pcr[17] == [0xFF; 32]);
-        same_blobs(&rt, &tpm, &other);
-    }
+    let blobs = given_by_running(rt.alloc())?;
+    let made = assembled(rt.alloc(), &PERMANENT, &blobs.volatile, &blobs.saved)?;
+    assert!(rt; matches!(&made, Some(Ok(other)) if is_made_of(other, &blobs)));
     Ok(())
 }
 
-/// Pushed whole and byte by byte, these bytes are refused so; and what was refused isn't kept.
-fn refused(
-    rt: &impl Abort,
-    alloc: Global,
-    kind: Kind,
-    bytes: &[u8],
-    fault: Malformed,
-) -> Result<(), Fail> {
-    let mut gather = Gather::new(alloc, kind)?;
-    assert_eq!(rt; gather.push(bytes), Err(fault), "whole");
-    assert!(rt; gather.is_empty() && !gather.is_whole());
+/// Whether a gather takes so many bytes one by one and refuses the next; what was refused isn't kept.
+fn is_refused_singly(gather: &mut Gather, bytes: &[u8], fault: Malformed) -> bool {
     for i in 0..bytes.len() {
-        let taken = gather.push(&bytes[i..i + 1]);
-        assert_eq!(rt;
-            gather.begun(),
-            if taken.is_ok() {
-                &bytes[..i + 1]
-            } else {
-                &bytes[..i]
-            }
-        );
-        if taken.is_err() {
-            assert_eq!(rt; taken, Err(fault), "byte {i}");
-            return Ok(());
+        match gather.push(&bytes[i..i + 1]) {
+            Ok(_) if gather.begun() == &bytes[..i + 1] => {}
+            Err(found) => return found == fault && gather.begun() == &bytes[..i],
+            Ok(_) => return false,
         }
     }
-    assert!(rt; false, "each byte was taken");
-    Ok(())
+    false
+}
+
+/// Whether these bytes are refused so, pushed whole and byte by byte.
+fn is_refused(gather: &mut Gather, bytes: &[u8], fault: Malformed) -> bool {
+    gather.push(bytes) == Err(fault)
+        && gather.is_empty()
+        && !gather.is_whole()
+        && is_refused_singly(gather, bytes, fault)
 }
 
 /// Bytes that are refused, why and where.
@@ -251,29 +307,45 @@ const REFUSALS: [(Kind, &str, Why, u32); 21] = [
 fn refusals(rt: HostRuntime) -> Result<(), Fail> {
     for (kind, text, why, place) in REFUSALS {
         let bytes = hex::decode(rt.alloc(), text)?;
-        refused(&rt, rt.alloc(), kind, &bytes, Malformed { why, place })?;
+        let mut gather = Gather::new(rt.alloc(), kind)?;
+        assert!(rt;
+            is_refused(&mut gather, &bytes, Malformed { why, place }),
+            "{text}"
+        );
     }
-    let mut long = [0; 50];
-    long[..49].copy_from_slice(&PERMANENT);
+    Ok(())
+}
+
+/// The permanent blob with a byte behind it.
+const LONG: [u8; 50] = [
+    0x43, 0x52, 0x42, 0x50, 1, 0, 0, 0, 0x28, 0, 0, 0, 0, 0, 0, 0, 0, 0, 0, 0, 0, 0, 0, 0, 0, 0, 0,
+    0, 0, 0, 0, 0, 0, 0, 0, 0, 0, 0, 0, 0, 0, 0, 0, 0, 0, 0, 0, 0, 1, 0,
+];
+
+#[test]
+fn a_byte_behind_the_longest_permanent_blob(rt: HostRuntime) -> Result<(), Fail> {
     let fault = Malformed {
         why: Why::Extra,
         place: 49,
     };
-    refused(&rt, rt.alloc(), Kind::Permanent, &long, fault)
+    let mut gather = Gather::new(rt.alloc(), Kind::Permanent)?;
+    assert!(rt; is_refused(&mut gather, &LONG, fault));
+    Ok(())
 }
 
-/// The fault of gathers that took these bytes, if there is one.
-fn fault_of(
-    rt: &impl Abort,
+/// Whether these bytes have this fault, or none.
+fn has_fault(
     alloc: Global,
     permanent: &[u8],
     volatile: &[u8],
     saved: &[u8],
-) -> Result<Option<BlobFault>, Fail> {
-    let p = gathered(rt, alloc, Kind::Permanent, permanent)?;
-    let v = gathered(rt, alloc, Kind::Volatile, volatile)?;
-    let z = gathered(rt, alloc, Kind::Saved, saved)?;
-    Ok(assemble(&p, &v, &z).err())
+    wanted: Option<BlobFault>,
+) -> Result<bool, AllocError> {
+    let made = assembled(alloc, permanent, volatile, saved)?;
+    Ok(match made {
+        Some(made) => made.err() == wanted,
+        None => false,
+    })
 }
 
 fn at(kind: Kind, why: Why, place: u32) -> Option<BlobFault> {
@@ -303,85 +375,99 @@ fn front(bytes: &[u8], count: usize) -> &[u8] {
     bytes.get(..count).unwrap_or(bytes)
 }
 
-#[test]
-fn faults_in_their_order(rt: HostRuntime) -> Result<(), Fail> {
-    let tpm = running(rt.alloc())?;
-    let mut volatile = [0; 790];
-    let mut saved = [0; 526];
-    piece(&tpm, Kind::Volatile, 0, &mut volatile);
-    piece(&tpm, Kind::Saved, 0, &mut saved);
-    for (p, v, z, cut, place) in CUTS {
-        let fault = fault_of(
-            &rt,
-            rt.alloc(),
-            front(&PERMANENT, p),
-            front(&volatile, v),
-            front(&saved, z),
-        )?;
+/// The first row of the cuts that has another fault.
+fn wrong_cut(alloc: Global, blobs: &StartedBlobs) -> Result<Option<usize>, AllocError> {
+    for (row, (p, v, z, cut, place)) in CUTS.iter().enumerate() {
         let wanted = match cut {
-            Some(kind) => at(kind, Why::Cut, place),
+            Some(kind) => at(*kind, Why::Cut, *place),
             None => None,
         };
-        assert_eq!(rt; fault, wanted);
+        let volatile = front(&blobs.volatile, *v);
+        let saved = front(&blobs.saved, *z);
+        if !has_fault(alloc, front(&PERMANENT, *p), volatile, saved, wanted)? {
+            return Ok(Some(row));
+        }
     }
-    let fault = fault_of(&rt, rt.alloc(), &PERMANENT, front(&STOPPED, 9), &saved)?;
-    assert_eq!(rt; fault, at(Kind::Volatile, Why::Cut, 9));
-    assert_eq!(rt;
-        fault_of(&rt, rt.alloc(), &PERMANENT, &STOPPED, &NO_STATE)?,
-        None
+    Ok(None)
+}
+
+#[test]
+fn faults_in_their_order(rt: HostRuntime) -> Result<(), Fail> {
+    let blobs = given_by_running(rt.alloc())?;
+    assert_eq!(rt; wrong_cut(rt.alloc(), &blobs)?, None);
+    let cut = at(Kind::Volatile, Why::Cut, 9);
+    assert!(rt;
+        has_fault(
+            rt.alloc(),
+            &PERMANENT,
+            front(&STOPPED, 9),
+            &blobs.saved,
+            cut
+        )?
     );
+    assert!(rt; has_fault(rt.alloc(), &PERMANENT, &STOPPED, &NO_STATE, None)?);
     Ok(())
 }
 
-/// Each blob, cut at each place.
-#[test]
-fn cuts_at_each_place(rt: HostRuntime) -> Result<(), Fail> {
-    let tpm = running(rt.alloc())?;
-    let mut volatile = [0; 790];
-    let mut saved = [0; 526];
-    piece(&tpm, Kind::Volatile, 0, &mut volatile);
-    piece(&tpm, Kind::Saved, 0, &mut saved);
-    for place in 1..790u32 {
-        let v = front(&volatile, place as usize);
-        let fault = fault_of(&rt, rt.alloc(), &PERMANENT, v, &saved)?;
-        assert_eq!(rt; fault, at(Kind::Volatile, Why::Cut, place));
-        if place < 526 {
-            let z = front(&saved, place as usize);
-            let fault = fault_of(&rt, rt.alloc(), &PERMANENT, &volatile, z)?;
-            assert_eq!(rt; fault, at(Kind::Saved, Why::Cut, place));
-        }
-        if place < 49 {
-            let p = front(&PERMANENT, place as usize);
-            let fault = fault_of(&rt, rt.alloc(), p, &volatile, &saved)?;
-            assert_eq!(rt; fault, at(Kind::Permanent, Why::Cut, place));
+/// Whether each blob that is cut at this place is told as cut there.
+fn are_cut_at(alloc: Global, blobs: &StartedBlobs, place: usize) -> Result<bool, AllocError>
+    requires { place < 790 }
+{
+    let volatile = front(&blobs.volatile, place);
+    let cut = at(Kind::Volatile, Why::Cut, place as u32);
+    if !has_fault(alloc, &PERMANENT, volatile, &blobs.saved, cut)? {
+        return Ok(false);
+    }
+    let saved = front(&blobs.saved, place);
+    let cut = at(Kind::Saved, Why::Cut, place as u32);
+    if place < 526 && !has_fault(alloc, &PERMANENT, &blobs.volatile, saved, cut)? {
+        return Ok(false);
+    }
+    let permanent = front(&PERMANENT, place);
+    let cut = at(Kind::Permanent, Why::Cut, place as u32);
+    Ok(place >= 49 || has_fault(alloc, permanent, &blobs.volatile, &blobs.saved, cut)?)
+}
+
+/// The first place at which a cut is told otherwise.
+fn wrong_place(alloc: Global, blobs: &StartedBlobs) -> Result<Option<usize>, AllocError> {
+    for place in 1..790 {
+        if !are_cut_at(alloc, blobs, place)? {
+            return Ok(Some(place));
         }
     }
+    Ok(None)
+}
+
+#[test]
+fn cuts_at_each_place(rt: HostRuntime) -> Result<(), Fail> {
+    let blobs = given_by_running(rt.alloc())?;
+    assert_eq!(rt; wrong_place(rt.alloc(), &blobs)?, None);
     Ok(())
+}
+
+/// The first of these places at which a saved state that differs isn't told so, or is told without registers that stand.
+fn wrong_disagreement(alloc: Global, blobs: &StartedBlobs) -> Result<Option<usize>, AllocError> {
+    // The first and the last byte of the counter, and bytes of registers 0, 1 and 15.
+    for place in [10, 13, 14, 45, 46, 525] {
+        let mut saved = blobs.saved;
+        saved[place] ^= 0x80;
+        // A later byte that differs too isn't told.
+        saved[525] |= 1;
+        let wanted = at(Kind::Saved, Why::Value, place as u32);
+        let told = has_fault(alloc, &PERMANENT, &blobs.volatile, &saved, wanted)?
+            && has_fault(alloc, &PERMANENT, &STOPPED, &saved, None)?
+            && has_fault(alloc, &PERMANENT, &[], &saved, None)?;
+        if !told {
+            return Ok(Some(place));
+        }
+    }
+    Ok(None)
 }
 
 #[test]
 fn saved_states_that_disagree(rt: HostRuntime) -> Result<(), Fail> {
-    let tpm = running(rt.alloc())?;
-    let mut volatile = [0; 790];
-    piece(&tpm, Kind::Volatile, 0, &mut volatile);
-    // The first and the last byte of the counter, and bytes of registers 0, 1 and 15.
-    for place in [10u32, 13, 14, 45, 46, 525] {
-        let mut saved = [0; 526];
-        piece(&tpm, Kind::Saved, 0, &mut saved);
-        saved[place as usize] ^= 0x80;
-        // A later byte that differs too isn't told.
-        saved[525] |= 1;
-        let wanted = at(Kind::Saved, Why::Value, place);
-        assert_eq!(rt;
-            fault_of(&rt, rt.alloc(), &PERMANENT, &volatile, &saved)?,
-            wanted
-        );
-        assert_eq!(rt;
-            fault_of(&rt, rt.alloc(), &PERMANENT, &STOPPED, &saved)?,
-            None
-        );
-        assert_eq!(rt; fault_of(&rt, rt.alloc(), &PERMANENT, &[], &saved)?, None);
-    }
+    let blobs = given_by_running(rt.alloc())?;
+    assert_eq!(rt; wrong_disagreement(rt.alloc(), &blobs)?, None);
     Ok(())
 }
 

@@ -1,7 +1,6 @@
 //! Values from outside: the tables were made by a program apart, from the table of commands alone.
 
-use std::alloc::Global;
-use std::process::Abort;
+use std::alloc::{AllocError, Global};
 use std::test::*;
 use tpm_core::*;
 use vt_base::Buf;
@@ -365,25 +364,39 @@ fn powered() -> Tpm {
     tpm
 }
 
-/// Executes each command of a table, and compares the responses.
-fn run(rt: &impl Abort, alloc: Global, tpm: &mut Tpm, table: &[(&str, &str)]) -> Result<(), Fail> {
+/// Whether the TPM answers a command so.
+fn answers(alloc: Global, tpm: &mut Tpm, into: &mut Buf, command: &str, response: &str) -> bool {
+    let Ok(command) = hex::decode(alloc, command) else {
+        return false;
+    };
+    let Ok(response) = hex::decode(alloc, response) else {
+        return false;
+    };
+    let size = tpm.execute(&command, into);
+    into.bytes().get(..size) == Some(response.as_slice())
+}
+
+/// The first command of a table that the TPM answers otherwise.
+fn wrong<'a>(
+    alloc: Global,
+    tpm: &mut Tpm,
+    table: &[(&'a str, &'a str)],
+) -> Result<Option<&'a str>, AllocError> {
     let mut into = Buf::new(alloc)?;
-    for (command, wanted) in table {
-        let size = tpm.execute(&hex::decode(alloc, command)?, &mut into);
-        let wanted = hex::decode(alloc, wanted)?;
-        assert!(rt;
-            into.bytes().get(..size) == Some(wanted.as_slice()),
-            "to {command}"
-        );
+    for (command, response) in table {
+        if !answers(alloc, tpm, &mut into, command, response) {
+            return Ok(Some(*command));
+        }
     }
-    Ok(())
+    Ok(None)
 }
 
 #[test]
 fn first_commands(rt: HostRuntime) -> Result<(), Fail> {
-    run(&rt, rt.alloc(), &mut powered(), &FIRST_EXTEND)?;
-    run(&rt, rt.alloc(), &mut powered(), &REFUSED_EXTENDS)?;
-    run(&rt, rt.alloc(), &mut powered(), &FIRST_BLOCK)
+    assert_eq!(rt; wrong(rt.alloc(), &mut powered(), &FIRST_EXTEND)?, None);
+    assert_eq!(rt; wrong(rt.alloc(), &mut powered(), &REFUSED_EXTENDS)?, None);
+    assert_eq!(rt; wrong(rt.alloc(), &mut powered(), &FIRST_BLOCK)?, None);
+    Ok(())
 }
 
 #[test]
@@ -394,24 +407,23 @@ fn session(rt: HostRuntime) -> Result<(), Fail> {
     }
     let mut tpm = Tpm::manufacture(seed);
     tpm.power_on();
-    run(&rt, rt.alloc(), &mut tpm, &SESSION)
+    assert_eq!(rt; wrong(rt.alloc(), &mut tpm, &SESSION)?, None);
+    Ok(())
 }
 
 #[test]
 fn refusals(rt: HostRuntime) -> Result<(), Fail> {
     let mut tpm = powered();
-    run(&rt, rt.alloc(), &mut tpm, &REFUSED_BEFORE_START)?;
-    run(&rt, rt.alloc(), &mut tpm, &FIRST_BLOCK[..1])?;
-    run(&rt, rt.alloc(), &mut tpm, &REFUSED_AFTER_START)
+    assert_eq!(rt; wrong(rt.alloc(), &mut tpm, &REFUSED_BEFORE_START)?, None);
+    assert_eq!(rt; wrong(rt.alloc(), &mut tpm, &FIRST_BLOCK[..1])?, None);
+    assert_eq!(rt; wrong(rt.alloc(), &mut tpm, &REFUSED_AFTER_START)?, None);
+    Ok(())
 }
 
-#[test]
-fn saved_states(rt: HostRuntime) -> Result<(), Fail> {
-    let mut tpm = powered();
-    run(&rt, rt.alloc(), &mut tpm, &KEPT)?;
-    // A TPM made of these values goes on as this one does.
+/// A TPM made of the values of another.
+fn made_of(tpm: &Tpm) -> Tpm {
     let parts = tpm.parts();
-    let mut tpm = Tpm::of_parts(TpmParts {
+    Tpm::of_parts(TpmParts {
         seed: parts.seed,
         boots: parts.boots,
         draws: parts.draws,
@@ -419,16 +431,20 @@ fn saved_states(rt: HostRuntime) -> Result<(), Fail> {
         pcr: parts.pcr,
         counter: parts.counter,
         saved: parts.saved,
-    });
-    for table in [
-        RESTORED.as_slice(),
-        STALE.as_slice(),
-        FORGOTTEN.as_slice(),
-        CLEARED.as_slice(),
-        GONE.as_slice(),
-    ] {
+    })
+}
+
+/// What a TPM answers each time that power comes again.
+const TIMES: [&[(&str, &str)]; 5] = [&RESTORED, &STALE, &FORGOTTEN, &CLEARED, &GONE];
+
+#[test]
+fn saved_states(rt: HostRuntime) -> Result<(), Fail> {
+    let mut tpm = powered();
+    assert_eq!(rt; wrong(rt.alloc(), &mut tpm, &KEPT)?, None);
+    let mut tpm = made_of(&tpm);
+    for table in TIMES {
         tpm.power_on();
-        run(&rt, rt.alloc(), &mut tpm, table)?;
+        assert_eq!(rt; wrong(rt.alloc(), &mut tpm, table)?, None);
     }
     Ok(())
 }

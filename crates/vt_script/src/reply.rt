@@ -1,8 +1,7 @@
 //! The replies to the lines of a script.
 ghost use Rattle.std.specs.Prelude.{◌≡◌, ◌++◌, ◌≤◌, ◌<◌, ◌/◌, ◌%◌, ◌*◌, ◌^◌, OnOk, OnErr, length, take};
-ghost use Rattle.std.specs.String.{string_bytes};
 ghost use Rattle.crb_regs.specs.Access.{IsAccessSize};
-ghost use Rattle.vt_script.specs.Replies.{hex_digit, hex_digits, ended, reply_text, IsPrintable};
+ghost use Rattle.vt_script.specs.Replies.{hex_digit, hex_digits, ended, numbered, reply_text, IsPrintable};
 
 use crate::parts::LINE_FEED;
 use std::alloc::{AllocError, Global};
@@ -88,10 +87,17 @@ fn push_value(value: u64, size: u8, into: &mut Vec<u8>) -> Result<(), AllocError
     into.extend_from_slice(&text[..=count])
 }
 
-fn push_text(text: &String, into: &mut Vec<u8>) -> Result<(), AllocError>
-    ensures ok { OnOk result (into.new.items ≡ into.old.items ++ string_bytes text.now) }
+// Appends a name with a number in decimal, and LF.
+fn push_numbered(
+    alloc: Global,
+    name: &str,
+    number: u64,
+    into: &mut Vec<u8>,
+) -> Result<(), AllocError>
+    ensures ok { OnOk result (into.new.items ≡ into.old.items ++ numbered name.now number) }
     ensures err { OnErr result (into.new.items ≡ into.old.items) }
 {
+    let text = format!(in alloc; "{name}{number}\n")?;
     into.extend_from_slice(text.as_bytes())
 }
 
@@ -107,12 +113,12 @@ pub fn print_reply(alloc: Global, reply: &Reply, into: &mut Vec<u8>) -> Result<(
         Reply::Value { value, size } => push_value(value, size, into),
         Reply::Accepted => into.extend_from_slice(b"ok\n"),
         Reply::Idle => into.extend_from_slice(b"idle\n"),
-        Reply::Claim(number) => push_text(&format!(in alloc; "claim {number}\n")?, into),
-        Reply::Sent(number) => push_text(&format!(in alloc; "sent {number}\n")?, into),
-        Reply::Exec(number) => push_text(&format!(in alloc; "exec {number}\n")?, into),
-        Reply::Done(number) => push_text(&format!(in alloc; "done {number}\n")?, into),
-        Reply::Cancelled(number) => push_text(&format!(in alloc; "cancelled {number}\n")?, into),
-        Reply::Lost(number) => push_text(&format!(in alloc; "lost {number}\n")?, into),
+        Reply::Claim(number) => push_numbered(alloc, "claim ", number, into),
+        Reply::Sent(number) => push_numbered(alloc, "sent ", number, into),
+        Reply::Exec(number) => push_numbered(alloc, "exec ", number, into),
+        Reply::Done(number) => push_numbered(alloc, "done ", number, into),
+        Reply::Cancelled(number) => push_numbered(alloc, "cancelled ", number, into),
+        Reply::Lost(number) => push_numbered(alloc, "lost ", number, into),
         Reply::Link => into.extend_from_slice(b"link\n"),
         Reply::Asked => into.extend_from_slice(b"asked\n"),
         Reply::FailedDevice => into.extend_from_slice(b"failed device\n"),
