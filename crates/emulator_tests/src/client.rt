@@ -1,4 +1,5 @@
 //! Requests over prepared wires.
+use ctrl_client::ClientFault::Link;
 use ctrl_client::*;
 use state_blobs::Piece;
 use std::alloc::{AllocError, Global};
@@ -216,60 +217,20 @@ const ASKED: [Asked; 29] = [
         Err(ClientFault::Result(10)),
     ),
     // A send fails, and behind the sends the receive.
-    (Ask::Init, 4096, 1, &DONE, &INIT, 0, Err(ClientFault::Link)),
-    (Ask::Init, 4096, 2, &DONE, &INIT, 8, Err(ClientFault::Link)),
-    (Ask::Stop, 4096, 1, &DONE, &STOP, 0, Err(ClientFault::Link)),
-    (Ask::Stop, 4096, 2, &DONE, &STOP, 4, Err(ClientFault::Link)),
-    (
-        Ask::Cancel,
-        4096,
-        1,
-        &DONE,
-        &CANCEL,
-        0,
-        Err(ClientFault::Link),
-    ),
-    (
-        Ask::Cancel,
-        4096,
-        2,
-        &DONE,
-        &CANCEL,
-        4,
-        Err(ClientFault::Link),
-    ),
-    (Ask::Put, 4096, 1, &DONE, &PUT, 0, Err(ClientFault::Link)),
-    (Ask::Put, 4096, 2, &DONE, &PUT, 16, Err(ClientFault::Link)),
-    (Ask::Put, 4096, 3, &DONE, &PUT, 19, Err(ClientFault::Link)),
-    (
-        Ask::Buffer(2000),
-        4096,
-        1,
-        &TOOK,
-        &BUFFER,
-        0,
-        Err(ClientFault::Link),
-    ),
-    (
-        Ask::Buffer(2000),
-        4096,
-        2,
-        &TOOK,
-        &BUFFER,
-        8,
-        Err(ClientFault::Link),
-    ),
+    (Ask::Init, 4096, 1, &DONE, &INIT, 0, Err(Link)),
+    (Ask::Init, 4096, 2, &DONE, &INIT, 8, Err(Link)),
+    (Ask::Stop, 4096, 1, &DONE, &STOP, 0, Err(Link)),
+    (Ask::Stop, 4096, 2, &DONE, &STOP, 4, Err(Link)),
+    (Ask::Cancel, 4096, 1, &DONE, &CANCEL, 0, Err(Link)),
+    (Ask::Cancel, 4096, 2, &DONE, &CANCEL, 4, Err(Link)),
+    (Ask::Put, 4096, 1, &DONE, &PUT, 0, Err(Link)),
+    (Ask::Put, 4096, 2, &DONE, &PUT, 16, Err(Link)),
+    (Ask::Put, 4096, 3, &DONE, &PUT, 19, Err(Link)),
+    (Ask::Buffer(2000), 4096, 1, &TOOK, &BUFFER, 0, Err(Link)),
+    (Ask::Buffer(2000), 4096, 2, &TOOK, &BUFFER, 8, Err(Link)),
     // The reply ends early.
-    (Ask::Stop, 4096, 0, &BEGUN, &STOP, 4, Err(ClientFault::Link)),
-    (
-        Ask::Buffer(2000),
-        4096,
-        0,
-        &CUT,
-        &BUFFER,
-        8,
-        Err(ClientFault::Link),
-    ),
+    (Ask::Stop, 4096, 0, &BEGUN, &STOP, 4, Err(Link)),
+    (Ask::Buffer(2000), 4096, 0, &CUT, &BUFFER, 8, Err(Link)),
 ];
 
 // Whether so many bytes of this request were sent.
@@ -455,24 +416,24 @@ const FETCHED: [(Reply, Fetched); 22] = [
     // The send fails, the receive of the fields, and that of the data.
     (
         (0, 4096, 1, [0, 0, 10, 10], 26),
-        (Err(ClientFault::Link), NOTHING, 0, false),
+        (Err(Link), NOTHING, 0, false),
     ),
     (
         (0, 4096, 2, [0, 0, 10, 10], 26),
-        (Err(ClientFault::Link), NOTHING, 16, false),
+        (Err(Link), NOTHING, 16, false),
     ),
     (
         (0, 4096, 3, [0, 0, 10, 10], 26),
-        (Err(ClientFault::Link), NOTHING, 16, false),
+        (Err(Link), NOTHING, 16, false),
     ),
     // The reply ends early.
     (
         (0, 4096, 0, [0, 0, 10, 10], 15),
-        (Err(ClientFault::Link), NOTHING, 16, false),
+        (Err(Link), NOTHING, 16, false),
     ),
     (
         (0, 4096, 0, [0, 0, 10, 10], 16),
-        (Err(ClientFault::Link), NOTHING, 16, false),
+        (Err(Link), NOTHING, 16, false),
     ),
 ];
 
