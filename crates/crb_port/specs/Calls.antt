@@ -112,13 +112,13 @@ Collects k None l = TakesNothing k l × ((found : Stage) × Found k l found [] �
 Collects k (Some answer) l = TakesOut k (Answered answer) l × (l.collected ≡ grown k.collected answer)
     × ((more : List Stage) × Found k l stage.Answered more × (length more ≤ 1))
 
--- the job or the answer was pulled home, or neither stood; at most three steps
+-- the job or the answer was pulled home, or neither stood; at most three steps, of which the last found an answer that came
 abbrev pub Pulls : Known → Pull → Known → Type 0
 Pulls k pulled.Free l = TakesNothing k l × (k.is_free ≡ true) × ((more : List Stage) × Found k l stage.Free more × (length more ≤ 1))
 Pulls k (pulled.Job job) l = TakesOut k (Waiting job) l × (l.collected ≡ k.collected) × EndsWith k.queued job
     × ((more : List Stage) × Found k l (waiting_stage job.cancelled) more × (length more ≤ 1))
 Pulls k (pulled.Answer answer) l = TakesOut k (Answered answer) l × (l.collected ≡ grown k.collected answer)
-    × ((found : Stage) × (more : List Stage) × Found k l found more × (length more ≤ 2))
+    × ((found : Stage) × (more : List Stage) × Found k l found more × (length more ≤ 2) × (last_of (found ∷ more) ≡ stage.Answered ∷ []))
 Pulls k pulled.Busy l = TakesNothing k l × (k.is_free ≡ false)
     × (Found k l stage.Claimed [] ⊎ ((first : Stage) × (k.state ≡ None) × Found k l first (stage.Claimed ∷ [])))
 

@@ -53,14 +53,14 @@ fn is_cancelled(response: &[u8]) -> bool
 fn receive<W: Wires>(wires: &mut W, into: &mut [u8]) -> Result<(), Failed>
     requires some { 0 < length into.old }
     ensures next { OnOk result (AreNext into.new (length into.old)
-        (wires_seen W.fails W.later (W.link wires.old) (W.plan wires.old) (W.faults wires.old) (W.came wires.old))
-        (wires_seen W.fails W.later (W.link wires.new) (W.plan wires.new) (W.faults wires.new) (W.came wires.new))) }
+        (wires_seen W.fails W.later (W.link wires.old) (W.plan wires.old) (W.faults wires.old) (W.traffic wires.old))
+        (wires_seen W.fails W.later (W.link wires.new) (W.plan wires.new) (W.faults wires.new) (W.traffic wires.new))) }
     ensures ok { OnOk result (Receives true (length into.old)
-        (wires_seen W.fails W.later (W.link wires.old) (W.plan wires.old) (W.faults wires.old) (W.came wires.old))
-        (wires_seen W.fails W.later (W.link wires.new) (W.plan wires.new) (W.faults wires.new) (W.came wires.new))) }
+        (wires_seen W.fails W.later (W.link wires.old) (W.plan wires.old) (W.faults wires.old) (W.traffic wires.old))
+        (wires_seen W.fails W.later (W.link wires.new) (W.plan wires.new) (W.faults wires.new) (W.traffic wires.new))) }
     ensures err { OnErr result (Receives false (length into.old)
-        (wires_seen W.fails W.later (W.link wires.old) (W.plan wires.old) (W.faults wires.old) (W.came wires.old))
-        (wires_seen W.fails W.later (W.link wires.new) (W.plan wires.new) (W.faults wires.new) (W.came wires.new))) }
+        (wires_seen W.fails W.later (W.link wires.old) (W.plan wires.old) (W.faults wires.old) (W.traffic wires.old))
+        (wires_seen W.fails W.later (W.link wires.new) (W.plan wires.new) (W.faults wires.new) (W.traffic wires.new))) }
 {
     receive_whole(wires, Chan::Data, into)
 }
@@ -68,14 +68,14 @@ fn receive<W: Wires>(wires: &mut W, into: &mut [u8]) -> Result<(), Failed>
 /// Receives ten bytes, where a response begins.
 pub fn receive_head<W: Wires>(wires: &mut W) -> Result<[u8; HEADER_SIZE], Failed>
     ensures next { IfOk result (λ head. AreNext head HEADER_SIZE
-        (wires_seen W.fails W.later (W.link wires.old) (W.plan wires.old) (W.faults wires.old) (W.came wires.old))
-        (wires_seen W.fails W.later (W.link wires.new) (W.plan wires.new) (W.faults wires.new) (W.came wires.new))) }
+        (wires_seen W.fails W.later (W.link wires.old) (W.plan wires.old) (W.faults wires.old) (W.traffic wires.old))
+        (wires_seen W.fails W.later (W.link wires.new) (W.plan wires.new) (W.faults wires.new) (W.traffic wires.new))) }
     ensures ok { OnOk result (Receives true HEADER_SIZE
-        (wires_seen W.fails W.later (W.link wires.old) (W.plan wires.old) (W.faults wires.old) (W.came wires.old))
-        (wires_seen W.fails W.later (W.link wires.new) (W.plan wires.new) (W.faults wires.new) (W.came wires.new))) }
+        (wires_seen W.fails W.later (W.link wires.old) (W.plan wires.old) (W.faults wires.old) (W.traffic wires.old))
+        (wires_seen W.fails W.later (W.link wires.new) (W.plan wires.new) (W.faults wires.new) (W.traffic wires.new))) }
     ensures err { OnErr result (Receives false HEADER_SIZE
-        (wires_seen W.fails W.later (W.link wires.old) (W.plan wires.old) (W.faults wires.old) (W.came wires.old))
-        (wires_seen W.fails W.later (W.link wires.new) (W.plan wires.new) (W.faults wires.new) (W.came wires.new))) }
+        (wires_seen W.fails W.later (W.link wires.old) (W.plan wires.old) (W.faults wires.old) (W.traffic wires.old))
+        (wires_seen W.fails W.later (W.link wires.new) (W.plan wires.new) (W.faults wires.new) (W.traffic wires.new))) }
 {
     let mut head = [0; HEADER_SIZE];
     receive(wires, &mut head)?;
@@ -90,12 +90,12 @@ pub fn hold_response<W: Wires>(
     wires: &mut W,
 ) -> Result<bool, Failed>
     requires head { IsHead head.now ≡ true }
-    ensures ok { let before = wires_seen W.fails W.later (W.link wires.old) (W.plan wires.old) (W.faults wires.old) (W.came wires.old) in
-        let after = wires_seen W.fails W.later (W.link wires.new) (W.plan wires.new) (W.faults wires.new) (W.came wires.new) in
+    ensures ok { let before = wires_seen W.fails W.later (W.link wires.old) (W.plan wires.old) (W.faults wires.old) (W.traffic wires.old) in
+        let after = wires_seen W.fails W.later (W.link wires.new) (W.plan wires.new) (W.faults wires.new) (W.traffic wires.new) in
         IfOk result (λ cancelled. HoldsResponse head.now cancelled buf.new before after) }
     ensures err { OnErr result (Receives false (left_of head.now)
-        (wires_seen W.fails W.later (W.link wires.old) (W.plan wires.old) (W.faults wires.old) (W.came wires.old))
-        (wires_seen W.fails W.later (W.link wires.new) (W.plan wires.new) (W.faults wires.new) (W.came wires.new))) }
+        (wires_seen W.fails W.later (W.link wires.old) (W.plan wires.old) (W.faults wires.old) (W.traffic wires.old))
+        (wires_seen W.fails W.later (W.link wires.new) (W.plan wires.new) (W.faults wires.new) (W.traffic wires.new))) }
     ensures longer { OnErr result (is_longer head.now ≡ true) }
     ensures kept { OnErr result (buf.new ≡ buf.old) }
     ensures untouched { is_longer head.now ≡ false → wires.new ≡ wires.old }

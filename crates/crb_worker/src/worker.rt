@@ -48,8 +48,8 @@ impl Worker {
     /// hasn't posted its answer. No memory is taken: the job's buffer goes back with the answer.
     pub fn step<P: WorkPort, W: Wires>(&mut self, port: &mut P, wires: &mut W) -> Step
         requires in_hand { (P.known port.old).in_hand ≡ number_in_hand self.old }
-        ensures works { let before = wires_seen W.fails W.later (W.link wires.old) (W.plan wires.old) (W.faults wires.old) (W.came wires.old) in
-            let after = wires_seen W.fails W.later (W.link wires.new) (W.plan wires.new) (W.faults wires.new) (W.came wires.new) in
+        ensures works { let before = wires_seen W.fails W.later (W.link wires.old) (W.plan wires.old) (W.faults wires.old) (W.traffic wires.old) in
+            let after = wires_seen W.fails W.later (W.link wires.new) (W.plan wires.new) (W.faults wires.new) (W.traffic wires.new) in
             Works self.old (P.known port.old) before result self.new (P.known port.new) after }
 
         // Where there is nothing to send or to receive, the wires aren't touched.
@@ -91,8 +91,8 @@ impl Worker {
     fn send<P: WorkPort, W: Wires>(&mut self, job: Job, port: &mut P, wires: &mut W) -> Step
         requires free { self.old ≡ Progress.Free }
         requires in_hand { (P.known port.old).in_hand ≡ Some job.number }
-        ensures works { let before = wires_seen W.fails W.later (W.link wires.old) (W.plan wires.old) (W.faults wires.old) (W.came wires.old) in
-            let after = wires_seen W.fails W.later (W.link wires.new) (W.plan wires.new) (W.faults wires.new) (W.came wires.new) in
+        ensures works { let before = wires_seen W.fails W.later (W.link wires.old) (W.plan wires.old) (W.faults wires.old) (W.traffic wires.old) in
+            let after = wires_seen W.fails W.later (W.link wires.new) (W.plan wires.new) (W.faults wires.new) (W.traffic wires.new) in
             WithClaimed job (P.known port.old) before result self.new (P.known port.new) after }
         ensures untouched { job.cancelled ≡ true → wires.new ≡ wires.old }
         ensures hand { (P.known port.new).in_hand ≡ number_in_hand self.new }
@@ -115,8 +115,8 @@ impl Worker {
     fn run<P: WorkPort, W: Wires>(&mut self, job: Job, port: &mut P, wires: &mut W) -> Step
         requires free { self.old ≡ Progress.Free }
         requires in_hand { (P.known port.old).in_hand ≡ Some job.number }
-        ensures works { let before = wires_seen W.fails W.later (W.link wires.old) (W.plan wires.old) (W.faults wires.old) (W.came wires.old) in
-            let after = wires_seen W.fails W.later (W.link wires.new) (W.plan wires.new) (W.faults wires.new) (W.came wires.new) in
+        ensures works { let before = wires_seen W.fails W.later (W.link wires.old) (W.plan wires.old) (W.faults wires.old) (W.traffic wires.old) in
+            let after = wires_seen W.fails W.later (W.link wires.new) (W.plan wires.new) (W.faults wires.new) (W.traffic wires.new) in
             WithSent job (P.known port.old) before result self.new (P.known port.new) after }
         ensures hand { (P.known port.new).in_hand ≡ number_in_hand self.new }
         ensures head { holds_head self.new ≡ true }
@@ -144,8 +144,8 @@ impl Worker {
         requires free { self.old ≡ Progress.Free }
         requires in_hand { (P.known port.old).in_hand ≡ Some job.number }
         requires head { IsHead head.now ≡ true }
-        ensures works { let before = wires_seen W.fails W.later (W.link wires.old) (W.plan wires.old) (W.faults wires.old) (W.came wires.old) in
-            let after = wires_seen W.fails W.later (W.link wires.new) (W.plan wires.new) (W.faults wires.new) (W.came wires.new) in
+        ensures works { let before = wires_seen W.fails W.later (W.link wires.old) (W.plan wires.old) (W.faults wires.old) (W.traffic wires.old) in
+            let after = wires_seen W.fails W.later (W.link wires.new) (W.plan wires.new) (W.faults wires.new) (W.traffic wires.new) in
             WithRun job head.now (P.known port.old) before result self.new (P.known port.new) after }
         ensures untouched { is_longer head.now ≡ false → wires.new ≡ wires.old }
         ensures hand { (P.known port.new).in_hand ≡ number_in_hand self.new }

@@ -2,4 +2,4 @@ pub mod Hearing
 pub mod Sending
 pub mod Exchanging
 pub mod Fetching
-mod Coming
+mod Passing

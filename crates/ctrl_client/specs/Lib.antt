@@ -4,4 +4,4 @@ pub mod Link
 pub mod Whole
 pub mod Exchange
 pub mod Pieces
-pub mod Came
+pub mod Traffic

@@ -5,7 +5,7 @@ ghost use Rattle.ctrl_codec.specs.Requests.{HasData, IsInRange};
 ghost use Rattle.ctrl_codec.specs.Replies.{reply_spelling};
 ghost use Rattle.ctrl_client.specs.Desk.{Desk, Turn, Obeys, kind_of, type_of};
 ghost use Rattle.ctrl_client.specs.Exchange.{IsQuiet, Sends, Exchanges, HasResult, Commands};
-ghost use Rattle.ctrl_client.specs.Came.{Came, TellsResult};
+ghost use Rattle.ctrl_client.specs.Traffic.{Went, Passed, TellsResult, request_text};
 
 use crate::fault::ClientFault;
 use crate::profile::{LARGEST_PIECE, PERMANENT_BLOB, SAVED_BLOB, VOLATILE_BLOB};
@@ -20,7 +20,7 @@ fn send_request<W: Wires>(wires: &mut W, request: &Request, payload: &[u8]) -> R
     requires data { HasData request.now payload.now }
     ensures told { IfSome (W.link wires.old) (λ l. IsQuiet l
         → Sends W.fails W.later request.now payload.now l (W.plan wires.old) (is_ok result) (W.link wires.new) (W.plan wires.new)) }
-    ensures came { W.came wires.new ≡ W.came wires.old }
+    ensures went { OnOk result (Went Chan.Ctrl (request_text request.now payload.now) (W.traffic wires.old) (W.traffic wires.new)) }
     ensures cause { HasCause (W.faults wires.old) (W.faults wires.new) result }
 {
     let mut out = Out::new();
@@ -47,7 +47,7 @@ pub(crate) fn exchange<W: Wires>(
     requires room { (d : Desk) (turn : Turn) → Obeys request.now payload.now d turn → length reply.old ≤ length (reply_spelling turn.reply turn.payload) }
     ensures told { IfSome (W.link wires.old) (λ l. IsQuiet l
         → Exchanges W.fails W.later request.now payload.now l (W.plan wires.old) (is_ok result) reply.new (W.link wires.new) (W.plan wires.new)) }
-    ensures came { OnOk result (Came reply.new (W.came wires.old) (W.came wires.new)) }
+    ensures passed { OnOk result (Passed request.now payload.now reply.new (W.traffic wires.old) (W.traffic wires.new)) }
     ensures size { length reply.new ≡ length reply.old }
     ensures cause { HasCause (W.faults wires.old) (W.faults wires.new) result }
 {
@@ -64,7 +64,7 @@ fn command<W: Wires>(wires: &mut W, request: &Request, payload: &[u8]) -> Result
         → Commands W.fails W.later request.now payload.now l (W.plan wires.old) result (W.link wires.new) (W.plan wires.new)) }
 
     // Over any wires.
-    ensures reply { result ≢ Err ClientFault.Link → TellsResult (W.came wires.old) (W.came wires.new) result }
+    ensures reply { result ≢ Err ClientFault.Link → TellsResult request.now payload.now (W.traffic wires.old) (W.traffic wires.new) result }
     ensures link { result ≡ Err ClientFault.Link → Rose (W.faults wires.old) (W.faults wires.new) }
     ensures refused { (number : ℕ) → result ≡ Err (ClientFault.Result number) → number ≢ 0 }
     ensures no_reply { (place : ℕ) → result ≢ Err (ClientFault.Reply place) }
@@ -99,7 +99,7 @@ pub fn init<W: Wires>(wires: &mut W, flags: u32) -> Result<(), ClientFault>
         → Commands W.fails W.later (Request.Init flags) [] l (W.plan wires.old) result (W.link wires.new) (W.plan wires.new)) }
 
     // Over any wires.
-    ensures reply { result ≢ Err ClientFault.Link → TellsResult (W.came wires.old) (W.came wires.new) result }
+    ensures reply { result ≢ Err ClientFault.Link → TellsResult (Request.Init flags) [] (W.traffic wires.old) (W.traffic wires.new) result }
     ensures link { result ≡ Err ClientFault.Link → Rose (W.faults wires.old) (W.faults wires.new) }
     ensures refused { (number : ℕ) → result ≡ Err (ClientFault.Result number) → number ≢ 0 }
     ensures no_reply { (place : ℕ) → result ≢ Err (ClientFault.Reply place) }
@@ -114,7 +114,7 @@ pub fn stop<W: Wires>(wires: &mut W) -> Result<(), ClientFault>
         → Commands W.fails W.later Request.Stop [] l (W.plan wires.old) result (W.link wires.new) (W.plan wires.new)) }
 
     // Over any wires.
-    ensures reply { result ≢ Err ClientFault.Link → TellsResult (W.came wires.old) (W.came wires.new) result }
+    ensures reply { result ≢ Err ClientFault.Link → TellsResult Request.Stop [] (W.traffic wires.old) (W.traffic wires.new) result }
     ensures link { result ≡ Err ClientFault.Link → Rose (W.faults wires.old) (W.faults wires.new) }
     ensures refused { (number : ℕ) → result ≡ Err (ClientFault.Result number) → number ≢ 0 }
     ensures no_reply { (place : ℕ) → result ≢ Err (ClientFault.Reply place) }
@@ -129,7 +129,7 @@ pub fn cancel<W: Wires>(wires: &mut W) -> Result<(), ClientFault>
         → Commands W.fails W.later Request.CancelCommand [] l (W.plan wires.old) result (W.link wires.new) (W.plan wires.new)) }
 
     // Over any wires.
-    ensures reply { result ≢ Err ClientFault.Link → TellsResult (W.came wires.old) (W.came wires.new) result }
+    ensures reply { result ≢ Err ClientFault.Link → TellsResult Request.CancelCommand [] (W.traffic wires.old) (W.traffic wires.new) result }
     ensures link { result ≡ Err ClientFault.Link → Rose (W.faults wires.old) (W.faults wires.new) }
     ensures refused { (number : ℕ) → result ≡ Err (ClientFault.Result number) → number ≢ 0 }
     ensures no_reply { (place : ℕ) → result ≢ Err (ClientFault.Reply place) }
@@ -146,7 +146,7 @@ pub fn put_piece<W: Wires>(wires: &mut W, kind: Kind, bytes: &[u8]) -> Result<()
         → Commands W.fails W.later (Request.SetStateBlob 0 (type_of kind) (length bytes.now)) bytes.now l (W.plan wires.old) result (W.link wires.new) (W.plan wires.new)) }
 
     // Over any wires.
-    ensures reply { result ≢ Err ClientFault.Link → TellsResult (W.came wires.old) (W.came wires.new) result }
+    ensures reply { result ≢ Err ClientFault.Link → TellsResult (Request.SetStateBlob 0 (type_of kind) (length bytes.now)) bytes.now (W.traffic wires.old) (W.traffic wires.new) result }
     ensures link { result ≡ Err ClientFault.Link → Rose (W.faults wires.old) (W.faults wires.new) }
     ensures refused { (number : ℕ) → result ≡ Err (ClientFault.Result number) → number ≢ 0 }
     ensures no_reply { (place : ℕ) → result ≢ Err (ClientFault.Reply place) }

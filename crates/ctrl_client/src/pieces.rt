@@ -3,9 +3,10 @@ ghost use Rattle.std.specs.Prelude.{◌≡◌, ◌≢◌, ◌≤◌, ℕ, length
 ghost use Rattle.vt_base.specs.Faults.{Rose};
 ghost use Rattle.tpm_frame.specs.Frame.{number_at};
 ghost use Rattle.std.specs.Int.{w32};
+ghost use Rattle.ctrl_client.specs.Desk.{type_of};
 ghost use Rattle.ctrl_client.specs.Link.{empty_lane, at_hand};
 ghost use Rattle.ctrl_client.specs.Pieces.{judged_fields, IsPiece, IsPlace, HasField, Fetches, TakesData, IsSized, Sizes};
-ghost use Rattle.ctrl_client.specs.Came.{Came, fields_in, TellsPiece, TellsSize};
+ghost use Rattle.ctrl_client.specs.Traffic.{Came, fields_in, TellsPiece, TellsSize};
 
 use crate::client::{exchange, type_of};
 use crate::fault::ClientFault;
@@ -86,7 +87,7 @@ pub fn get_piece<W: Wires>(
         → Fetches W.fails W.later kind offset (length into.old) l (W.plan wires.old) result into.old into.new (W.link wires.new) (W.plan wires.new)) }
 
     // Over any wires.
-    ensures reply { result ≢ Err ClientFault.Link → TellsPiece offset (W.came wires.old) (W.came wires.new) into.old into.new result }
+    ensures reply { result ≢ Err ClientFault.Link → TellsPiece (Request.GetStateBlob 0 (type_of kind) offset) offset (W.traffic wires.old) (W.traffic wires.new) into.old into.new result }
     ensures piece { IfOk result (IsPiece offset (length into.old)) }
     ensures link { result ≡ Err ClientFault.Link → Rose (W.faults wires.old) (W.faults wires.new) }
     ensures refused { (number : ℕ) → result ≡ Err (ClientFault.Result number) → number ≢ 0 }
@@ -124,7 +125,7 @@ fn receive_data<W: Wires>(
     ensures told { IfSome (W.link wires.old) (λ m. piece.length ≤ length (at_hand Chan.Ctrl m)
         → TakesData (nat_lt 0 piece.length) W.fails W.later piece m (W.plan wires.old) result into.old into.new (W.link wires.new) (W.plan wires.new)) }
     ensures piece { IfOk result (λ p. p ≡ piece) }
-    ensures came { OnOk result (Came (take piece.length into.new) (W.came wires.old) (W.came wires.new)) }
+    ensures came { OnOk result (Came Chan.Ctrl (take piece.length into.new) (W.traffic wires.old) (W.traffic wires.new)) }
     ensures rest { OnOk result (drop piece.length into.new ≡ drop piece.length into.old) }
     ensures fault { IfErr result (λ fault. fault ≡ ClientFault.Link) }
     ensures link { result ≡ Err ClientFault.Link → Rose (W.faults wires.old) (W.faults wires.new) }
@@ -148,7 +149,7 @@ pub fn set_buffer<W: Wires>(wires: &mut W, size: u32) -> Result<u32, ClientFault
         → Sizes W.fails W.later size l (W.plan wires.old) result (W.link wires.new) (W.plan wires.new)) }
 
     // Over any wires.
-    ensures reply { result ≢ Err ClientFault.Link → TellsSize (W.came wires.old) (W.came wires.new) result }
+    ensures reply { result ≢ Err ClientFault.Link → TellsSize (Request.SetBufferSize size) (W.traffic wires.old) (W.traffic wires.new) result }
     ensures link { result ≡ Err ClientFault.Link → Rose (W.faults wires.old) (W.faults wires.new) }
     ensures refused { (number : ℕ) → result ≡ Err (ClientFault.Result number) → number ≢ 0 }
     ensures no_reply { (place : ℕ) → result ≢ Err (ClientFault.Reply place) }

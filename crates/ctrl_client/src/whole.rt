@@ -1,9 +1,9 @@
 //! A receive that is repeated for the rest.
-ghost use Rattle.std.specs.Prelude.{◌≡◌, ◌≤◌, ◌<◌, length, true, is_ok, IfSome, OnOk};
+ghost use Rattle.std.specs.Prelude.{◌≡◌, ◌≤◌, ◌<◌, length, true, is_ok, IfSome, OnOk, OnErr};
 ghost use Rattle.vt_base.specs.Faults.{HasCause};
 ghost use Rattle.ctrl_client.specs.Link.{at_hand};
 ghost use Rattle.ctrl_client.specs.Whole.{ReceivesWhole};
-ghost use Rattle.ctrl_client.specs.Came.{Came};
+ghost use Rattle.ctrl_client.specs.Traffic.{Came, CamePart};
 
 use crate::wires::Wires;
 use vt_base::{Chan, Failed};
@@ -17,7 +17,8 @@ pub fn receive_whole<W: Wires>(wires: &mut W, chan: Chan, into: &mut [u8]) -> Re
         → ReceivesWhole W.fails W.later chan l (W.plan wires.old) (length into.old) result into.new (W.link wires.new) (W.plan wires.new)) }
 
     // Over any wires.
-    ensures came { OnOk result (Came into.new (W.came wires.old) (W.came wires.new)) }
+    ensures came { OnOk result (Came chan into.new (W.traffic wires.old) (W.traffic wires.new)) }
+    ensures part { OnErr result (CamePart chan into.new (W.traffic wires.old) (W.traffic wires.new)) }
     ensures cause { HasCause (W.faults wires.old) (W.faults wires.new) result }
 {
     let count = wires.receive(chan, into)?;
@@ -28,7 +29,8 @@ pub fn receive_whole<W: Wires>(wires: &mut W, chan: Chan, into: &mut [u8]) -> Re
 fn receive_rest<W: Wires>(wires: &mut W, chan: Chan, into: &mut [u8]) -> Result<(), Failed>
     ensures nothing { length into.old ≡ 0 → OnOk result (wires.new ≡ wires.old) }
     ensures sure { length into.old ≡ 0 → is_ok result ≡ true }
-    ensures came { OnOk result (Came into.new (W.came wires.old) (W.came wires.new)) }
+    ensures came { OnOk result (Came chan into.new (W.traffic wires.old) (W.traffic wires.new)) }
+    ensures part { OnErr result (CamePart chan into.new (W.traffic wires.old) (W.traffic wires.new)) }
     ensures cause { HasCause (W.faults wires.old) (W.faults wires.new) result }
 {
     let mut done = 0;

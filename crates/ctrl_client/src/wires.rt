@@ -4,13 +4,14 @@ ghost use Rattle.std.specs.Io.{ReadsAtMost};
 ghost use Rattle.vt_base.specs.Faults.{HasCause};
 ghost use Rattle.ctrl_client.specs.Desk.{is_nil};
 ghost use Rattle.ctrl_client.specs.Link.{Link, Goes, SentBy, received, cut, at_hand};
-ghost use Rattle.ctrl_client.specs.Came.{with_received};
+ghost use Rattle.ctrl_client.specs.Traffic.{after_send, after_receive};
 
 use vt_base::{Chan, Failed};
 
 /// The link to one emulator: bytes of control messages and of commands go to it, and replies and responses come back.
 pub trait Wires {
     ghost use Rattle.ctrl_client.specs.Link.{Link};
+    ghost use Rattle.ctrl_client.specs.Traffic.{Traffic};
 
     /// The emulator behind the wires and the bytes that wait on them, where they tell it.
     ghost link: { Self → Option Link };
@@ -27,15 +28,15 @@ pub trait Wires {
 
     ghost later: { Plan → Plan };
 
-    /// All bytes that were received so far, where they keep them.
-    ghost came: { Self → Option (List ℕ) };
+    /// All bytes that were sent so far, and all that were received, where they keep them.
+    ghost traffic: { Self → Option Traffic };
 
     /// Sends bytes, all of them or none.
     fn send(&mut self, chan: Chan, bytes: &[u8]) -> Result<(), Failed>
         ensures link { Goes (SentBy (is_ok result) chan bytes.now) (link self.old) (link self.new) }
         ensures fails { IfSome (link self.old) (λ _. is_ok result ≡ not (fails (plan self.old))) }
         ensures plan { IfSome (link self.old) (λ _. plan self.new ≡ later (plan self.old)) }
-        ensures came { came self.new ≡ came self.old }
+        ensures traffic { traffic self.new ≡ option_map (after_send chan bytes.now result) (traffic self.old) }
         ensures cause { HasCause (faults self.old) (faults self.new) result };
 
     /// Gives the next bytes: at least one, unless the slice is empty.
@@ -46,13 +47,13 @@ pub trait Wires {
         ensures link { link self.new ≡ option_map (received (is_ok result) chan (length into.old)) (link self.old) }
         ensures fails { IfSome (link self.old) (λ l. is_ok result ≡ (not (fails (plan self.old)) && not (is_nil (at_hand chan l)))) }
         ensures plan { IfSome (link self.old) (λ _. plan self.new ≡ later (plan self.old)) }
-        ensures came { came self.new ≡ option_map (with_received result into.new) (came self.old) }
+        ensures traffic { traffic self.new ≡ option_map (after_receive chan into.new result) (traffic self.old) }
         ensures cause { HasCause (faults self.old) (faults self.new) result };
 
     /// Forgets the bytes that wait on a channel.
     fn cut(&mut self, chan: Chan)
         ensures link { link self.new ≡ option_map (cut chan) (link self.old) }
         ensures plan { IfSome (link self.old) (λ _. plan self.new ≡ plan self.old) }
-        ensures came { came self.new ≡ came self.old }
+        ensures traffic { traffic self.new ≡ traffic self.old }
         ensures faults { faults self.new ≡ faults self.old };
 }

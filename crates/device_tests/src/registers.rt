@@ -81,11 +81,26 @@ fn registers(rt: HostRuntime) {
     assert_eq!(rt; first_wrong(&Regs::reset(), page([0x81, 0, 2, 0, 0])), None);
 }
 
+// Its eight bytes.
+fn bytes_of(n: u64) -> [u8; 8] {
+    [
+        byte_at(n, 0),
+        byte_at(n, 1),
+        byte_at(n, 2),
+        byte_at(n, 3),
+        byte_at(n, 4),
+        byte_at(n, 5),
+        byte_at(n, 6),
+        byte_at(n, 7),
+    ]
+}
+
 #[test]
 fn bytes_of_a_number(rt: HostRuntime) {
-    let n = 0x0123_4567_89AB_CDEF;
-    let bytes = [byte_at(n, 0), byte_at(n, 1), byte_at(n, 2), byte_at(n, 7)];
-    assert_eq!(rt; bytes, [0xEF, 0xCD, 0xAB, 0x01]);
+    assert_eq!(rt;
+        bytes_of(0x0123_4567_89AB_CDEF),
+        [0xEF, 0xCD, 0xAB, 0x89, 0x67, 0x45, 0x23, 0x01]
+    );
 }
 
 // Offset, size, what is written, and whether that is an access.

@@ -1,86 +1,11 @@
 //! Requests over prepared wires.
+use crate::wires::Script;
 use ctrl_client::ClientFault::Link;
 use ctrl_client::*;
 use state_blobs::Piece;
 use std::alloc::{AllocError, Global};
 use std::test::*;
-use vt_base::{Bytes, Chan, Failed, FaultPlan, Held, Kind, MemSource, Source};
-
-// How many bytes are kept of what is sent.
-const ROOM: usize = 64;
-
-// Wires that give prepared bytes, so many at once at most, and keep what is sent. They tell nothing of what is behind them,
-// keep what was received, and have no channel of commands.
-#[derive(Drop)]
-struct Script {
-    source: MemSource,
-    piece: usize,
-    sent: Held<ROOM>,
-    came: Held<ROOM>,
-    was_cut: bool,
-    plan: FaultPlan,
-}
-
-impl Wires for Script {
-    ghost use Rattle.std.specs.Prelude.{Some, None, false};
-
-    ghost link = { λ _. None };
-
-    ghost faults = { λ s. s.plan.faults };
-
-    ghost Plan = { Unit {0} };
-
-    ghost plan = { λ _. tt };
-
-    ghost fails = { λ _. false };
-
-    ghost later = { λ plan. plan };
-
-    ghost came = { λ s. Some s.came };
-
-    fn send(&mut self, chan: Chan, bytes: &[u8]) -> Result<(), Failed> {
-        self.plan.call()?;
-        let room = ROOM - self.sent.as_slice().len();
-        if matches!(chan, Chan::Data) || bytes.len() > room {
-            return Err(self.plan.fault());
-        }
-        self.sent.push(bytes);
-        Ok(())
-    }
-
-    fn receive(&mut self, chan: Chan, into: &mut [u8]) -> Result<usize, Failed> {
-        self.plan.call()?;
-        if matches!(chan, Chan::Data) {
-            return Err(self.plan.fault());
-        }
-        let room = ROOM - self.came.as_slice().len();
-        let most = into.len().min(self.piece).min(room);
-        match self.source.read(&mut into[..most]) {
-            Ok(count) if count > 0 || into.is_empty() => {
-                self.came.push(&into[..count]);
-                Ok(count)
-            }
-            _ => Err(self.plan.fault()),
-        }
-    }
-
-    fn cut(&mut self, _: Chan) {
-        self.was_cut = true;
-    }
-}
-
-// Wires whose call of this number fails, if it isn't 0.
-fn prepared(alloc: Global, reply: &[u8], piece: usize, failing: u64) -> Result<Script, AllocError> {
-    let bytes = Bytes::from_slice(alloc, reply)?;
-    Ok(Script {
-        source: MemSource::new(bytes, Vec::new(alloc)),
-        piece,
-        sent: Held::new(),
-        came: Held::new(),
-        was_cut: false,
-        plan: FaultPlan::new(vec![in alloc; failing]?),
-    })
-}
+use vt_base::{Chan, Kind};
 
 // The requests that are answered by a number or by a result alone.
 #[derive(Clone, Copy)]
@@ -141,8 +66,8 @@ const BLOB: [u8; 26] = [
 // The result 10, and the sizes.
 const NOT_TAKEN: [u8; 16] = [0, 0, 0, 10, 0, 0, 0x07, 0xD0, 0, 0, 4, 0, 0, 0, 0x10, 0];
 
-// The first byte of a reply is all there is of it, or all but its last byte.
-const BEGUN: [u8; 1] = [0];
+// Good replies without their last byte.
+const BEGUN: [u8; 3] = [0, 0, 0];
 
 const CUT: [u8; 15] = [0, 0, 0, 0, 0, 0, 0x07, 0xD0, 0, 0, 4, 0, 0, 0, 0x10];
 
@@ -241,7 +166,7 @@ fn has_sent(wires: &Script, request: &[u8], count: usize) -> bool {
 // Whether a request goes so.
 fn goes(alloc: Global, row: &Asked) -> Result<bool, AllocError> {
     let (ask, piece, failing, reply, request, sent, answer) = *row;
-    let mut wires = prepared(alloc, reply, piece, failing)?;
+    let mut wires = Script::new(alloc, Chan::Ctrl, reply, piece, failing)?;
     Ok(asked(&mut wires, ask) == answer && has_sent(&wires, request, sent))
 }
 
@@ -459,7 +384,13 @@ fn is_fetched(wires: &mut Script, offset: u32, wanted: &Fetched) -> bool {
 fn comes(alloc: Global, reply: &Reply, wanted: &Fetched) -> Result<bool, AllocError> {
     let (offset, piece, failing, fields, count) = *reply;
     let bytes = reply_of(fields);
-    let mut wires = prepared(alloc, bytes.get(..count).unwrap_or(&[]), piece, failing)?;
+    let mut wires = Script::new(
+        alloc,
+        Chan::Ctrl,
+        bytes.get(..count).unwrap_or(&[]),
+        piece,
+        failing,
+    )?;
     Ok(is_fetched(&mut wires, offset, wanted))
 }
 

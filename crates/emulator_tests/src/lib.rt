@@ -8,4 +8,6 @@ mod client;
 #[cfg(test)]
 mod emulator;
 #[cfg(test)]
+mod wires;
+#[cfg(test)]
 mod worker;

@@ -3,13 +3,14 @@ ghost use Rattle.std.specs.Prelude.{◌≡◌, None, IfOk};
 ghost use Rattle.crb_port.specs.Known.{hand_of};
 ghost use Rattle.crb_worker.specs.Progress.{number_in_hand};
 
+use crate::wires::Script;
 use crb_port::{Job, Outcome, PlainPort, Port, WorkPort};
 use crb_worker::*;
 use ctrl_client::Wires;
 use std::alloc::{AllocError, Global};
 use std::test::*;
 use tpm_frame::LARGEST_FRAME;
-use vt_base::{Buf, Bytes, Chan, Failed, FaultPlan, Held, MemSource, Source};
+use vt_base::{Buf, Chan};
 
 const NUMBER: u64 = 7;
 
@@ -26,77 +27,6 @@ const CANCELED: [u8; 10] = [0x80, 1, 0, 0, 0, 10, 0, 0, 9, 9];
 const RANDOM: [u8; 20] = [
     0x80, 1, 0, 0, 0, 20, 0, 0, 0, 0, 0, 8, 0x44, 0xB4, 0xC8, 0xF8, 0xAE, 0xB4, 0x91, 0xCE,
 ];
-
-// Wires that give prepared bytes, so many at once at most, and keep what is sent and what is received.
-// They tell nothing of what is behind them.
-#[derive(Drop)]
-struct Script {
-    source: MemSource,
-    piece: usize,
-    sent: Held<LARGEST_FRAME>,
-    came: Held<LARGEST_FRAME>,
-    plan: FaultPlan,
-}
-
-impl Wires for Script {
-    ghost use Rattle.std.specs.Prelude.{Some, None, false};
-
-    ghost link = { λ _. None };
-
-    ghost faults = { λ s. s.plan.faults };
-
-    ghost Plan = { Unit {0} };
-
-    ghost plan = { λ _. tt };
-
-    ghost fails = { λ _. false };
-
-    ghost later = { λ plan. plan };
-
-    ghost came = { λ s. Some s.came };
-
-    fn send(&mut self, _: Chan, bytes: &[u8]) -> Result<(), Failed> {
-        self.plan.call()?;
-        let room = LARGEST_FRAME - self.sent.as_slice().len();
-        if bytes.len() > room {
-            return Err(self.plan.fault());
-        }
-        self.sent.push(bytes);
-        Ok(())
-    }
-
-    fn receive(&mut self, _: Chan, into: &mut [u8]) -> Result<usize, Failed> {
-        self.plan.call()?;
-        let room = LARGEST_FRAME - self.came.as_slice().len();
-        let most = into.len().min(self.piece).min(room);
-        match self.source.read(&mut into[..most]) {
-            Ok(count) if count > 0 || into.is_empty() => {
-                self.came.push(&into[..count]);
-                Ok(count)
-            }
-            _ => Err(self.plan.fault()),
-        }
-    }
-
-    fn cut(&mut self, _: Chan) {}
-}
-
-// Wires whose call of this number fails, if it isn't 0.
-fn prepared(
-    alloc: Global,
-    response: &[u8],
-    piece: usize,
-    failing: u64,
-) -> Result<Script, AllocError> {
-    let bytes = Bytes::from_slice(alloc, response)?;
-    Ok(Script {
-        source: MemSource::new(bytes, Vec::new(alloc)),
-        piece,
-        sent: Held::new(),
-        came: Held::new(),
-        plan: FaultPlan::new(vec![in alloc; failing]?),
-    })
-}
 
 // A port where a job waits: the start, with a byte behind it that isn't part of the command.
 fn waiting(alloc: Global, cancelled: bool) -> Result<PlainPort, AllocError>
@@ -395,7 +325,7 @@ fn has_sent_the_start(wires: &Script) -> bool {
 // Whether a job goes so.
 fn goes(alloc: Global, row: &Row) -> Result<bool, AllocError> {
     let (cancelled, response, piece, failing, steps, outcome, held, sent) = *row;
-    let mut wires = prepared(alloc, response, piece, failing)?;
+    let mut wires = Script::new(alloc, Chan::Data, response, piece, failing)?;
     let came = worked(alloc, cancelled, &mut wires, held)?;
     Ok(came == (*steps, Some(outcome), true, sent) && has_sent_the_start(&wires))
 }
@@ -423,7 +353,7 @@ const LONGEST: [u8; 10] = [0x80, 1, 0, 0, 0x0F, 0x80, 0, 0, 0, 0];
 fn the_longest_response(rt: HostRuntime) -> Result<(), Fail> {
     let mut response = [0x5A; LARGEST_FRAME];
     response[..10].copy_from_slice(&LONGEST);
-    let mut wires = prepared(rt.alloc(), &response, 1000, 0)?;
+    let mut wires = Script::new(rt.alloc(), Chan::Data, &response, 1000, 0)?;
     let came = worked(rt.alloc(), false, &mut wires, &response)?;
     assert!(rt; came == (DONE, Some(Outcome::Done), true, 12));
     Ok(())

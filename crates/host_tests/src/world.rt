@@ -1,4 +1,4 @@
-//! Streams that are loaded over emulators whose replies have pieces of several sizes. Scripts with their replies are in
+//! Hosts that are saved, and streams that are loaded, over emulators whose replies have pieces of several sizes. Scripts with their replies are in
 //! `examples/transcripts`, and the run whose calls on the wires fail in turn is in `examples/check`.
 ghost use Rattle.std.specs.Prelude.{◌≤◌};
 
@@ -45,6 +45,26 @@ fn a_new_world_answers(rt: HostRuntime) -> Result<(), Fail> {
         let mut world = World::new(rt.alloc(), [0; SEED_SIZE], piece)?;
         answers(&rt, &mut world);
         drop(world);
+    }
+    Ok(())
+}
+
+// What the save of a new host comes to, and whether it appends the stream of one on which no line was done.
+fn saved_at_once(alloc: Global, piece: u32) -> Result<(Saved, bool), AllocError>
+    requires least { 1 ≤ piece }
+    requires most { piece ≤ 4096 }
+{
+    let mut world = World::new(alloc, [0; SEED_SIZE], piece)?;
+    let mut stream = Vec::new(alloc);
+    let saved = world.save(&mut stream);
+    drop(world);
+    Ok((saved?, stream.as_slice() == FRESH.as_slice()))
+}
+
+#[test]
+fn a_new_world_is_saved(rt: HostRuntime) -> Result<(), Fail> {
+    for piece in [1, 7, 4096] {
+        assert_eq!(rt; saved_at_once(rt.alloc(), piece)?, (Saved::Whole, true));
     }
     Ok(())
 }

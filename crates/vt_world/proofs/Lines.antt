@@ -1,5 +1,5 @@
 -- The lines of the guest, and an order, lead a world on.
-use Rattle.std.proofs.Common.{◌≡◌, ℕ, ◌+◌, ◌-◌, ◌≤◌, ◌∷◌, refl, sym, subst, None}
+use Rattle.std.proofs.Common.{◌≡◌, ℕ, ◌+◌, ◌≤◌, ◌∷◌, refl, sym, subst, None}
 use Rattle.std.specs.Prelude.{Option, IsSome}
 use Rattle.crb_regs.specs.LittleEndian.{number_at}
 use Rattle.crb_regs.specs.Access.{Access}

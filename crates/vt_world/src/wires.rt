@@ -205,7 +205,7 @@ impl Wires for MemWires {
     ghost later = { passed };
 
     // What comes is told by the link.
-    ghost came = { λ _. None };
+    ghost traffic = { λ _. None };
 
     fn send(&mut self, chan: Chan, bytes: &[u8]) -> Result<(), Failed> {
         if self.count() {

@@ -1,6 +1,6 @@
 use Rattle.std.proofs.Common.{rules, length, ap, ◌∙◌}
 use Rattle.ctrl_client.specs.Pieces.{judged_fields, BlobFields}
-use Rattle.ctrl_client.proofs.Coming.{tells_piece}
+use Rattle.ctrl_client.proofs.Passing.{tells_piece}
 use Rattle.ctrl_client.proofs.Fetching.{fetch_failed, fetch_given, fetch_refused}
 use Rattle.ctrl_client.proofs.pieces.get_piece.Goals as goal
 
@@ -23,6 +23,6 @@ returns-in-Err-clause-told g c =
 
 pub returns-in-Ok-clause-reply : goal.returns-in-Ok-clause-reply
 returns-in-Ok-clause-reply g c =
-    tells_piece c.args.offset (g.W.Wires.came c.args.wires.now) _ _ c.exchange.new.reply c.args.into.now c.receive_data.new.into c.judge-judged.result c.receive_data.result c.in-Ok.piece
+    tells_piece _ c.args.offset (g.W.Wires.traffic c.args.wires.now) _ _ c.exchange.new.reply c.args.into.now c.receive_data.new.into c.judge-judged.result c.receive_data.result c.in-Ok.piece
     c.exchange.ensures.size (search rules) (c.judge-judged.ensures.judged ∙ ap (λ (f : BlobFields). judged_fields f c.args.offset (length c.args.into.now)) c.read.ensures) c.in-Ok.is
     c.receive_data.ensures.piece c.receive_data.ensures.fault c.receive_data.ensures.came c.receive_data.ensures.rest

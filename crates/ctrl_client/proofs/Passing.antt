@@ -1,0 +1,66 @@
+-- Bytes that pass one call after the other.
+use Rattle.std.proofs.Common.{◌≡◌, ◌≢◌, ℕ, ◌+◌, ◌≤◌, List, [], ◌∷◌, ◌++◌, length, take, drop, Option, Some, None, Result, Ok, Err, refl, sym, ap, ◌∙◌, append_assoc, arith}
+use Rattle.std.specs.Prelude.{option_map, IfOk, IfErr, OnOk, OnErr}
+use Rattle.std.proofs.Math.Seq.{take-append-add}
+use Rattle.std.proofs.lemmas.List.{length-take-le, take-append-le, length-append}
+use Rattle.vt_base.specs.declared.words.Chan.{Chan}
+use Rattle.vt_base.specs.declared.words.Chan.TheVariants.{Ctrl}
+use Rattle.state_blobs.specs.declared.words.Piece.{Piece}
+use Rattle.ctrl_codec.specs.declared.request.Request.{Request}
+use Rattle.ctrl_client.specs.declared.fault.ClientFault.{ClientFault}
+use Rattle.ctrl_client.specs.declared.fault.ClientFault.TheVariants.{Link as LinkFault}
+use Rattle.ctrl_client.specs.Pieces.{judged_fields}
+use Rattle.ctrl_client.specs.Traffic.{Traffic, over, with_sent, with_received, Came, CamePart, Passed, request_text, fields_in, TellsPiece}
+
+over_joins : (chan : Chan) (first bytes : List ℕ) → over chan first ++ over chan bytes ≡ over chan (first ++ bytes)
+over_joins chan [] bytes = refl
+over_joins chan (byte ∷ first) bytes = ap (λ (more : List (Chan × ℕ)). (chan, byte) ∷ more) (over_joins chan first bytes)
+
+-- bytes behind others, and both over one channel
+behind : (chan : Chan) (was : List (Chan × ℕ)) (first bytes : List ℕ) → (was ++ over chan first) ++ over chan bytes ≡ was ++ over chan (first ++ bytes)
+behind chan was first bytes = append_assoc was (over chan first) (over chan bytes) ∙ ap (λ (more : List (Chan × ℕ)). was ++ more) (over_joins chan first bytes)
+
+-- bytes and the bytes behind them
+pub came_joins : (chan : Chan) (first bytes : List ℕ) (before mid after : Option Traffic) → Came chan first before mid → Came chan bytes mid after → Came chan (first ++ bytes) before after
+came_joins chan first bytes None mid after is more = more ∙ ap (option_map (with_received chan bytes)) is
+came_joins chan first bytes (Some t) mid after is more =
+    more ∙ ap (option_map (with_received chan bytes)) is ∙ ap (λ (all : List (Chan × ℕ)). Some (record t { received = all })) (behind chan t.received first bytes)
+
+-- and more of the reply
+passed_joins : (q : Request) (payload first bytes : List ℕ) (before mid after : Option Traffic) → Passed q payload first before mid → Came Ctrl bytes mid after → Passed q payload (first ++ bytes) before after
+passed_joins q payload first bytes None mid after is more = more ∙ ap (option_map (with_received Ctrl bytes)) is
+passed_joins q payload first bytes (Some t) mid after is more =
+    more ∙ ap (option_map (with_received Ctrl bytes)) is
+    ∙ ap (λ (all : List (Chan × ℕ)). Some (record (with_sent Ctrl (request_text q payload) t) { received = all })) (behind Ctrl t.received first bytes)
+
+-- a slice that is filled from its front on
+pub came_behind : (chan : Chan) (done count : ℕ) (into part behind : List ℕ) (before mid after : Option Traffic) → done ≤ length into → count ≤ length part
+    → Came chan (take done into) before mid → Came chan (take count part) mid after → Came chan (take (done + count) (take done into ++ (part ++ behind))) before after
+came_behind chan done count into part behind before mid after within few first more =
+    let front : take (done + count) (take done into ++ (part ++ behind)) ≡ take done into ++ take count (part ++ behind) =
+    ap (λ (n : ℕ). take (n + count) (take done into ++ (part ++ behind))) (sym (length-take-le done into within)) ∙ take-append-add (take done into) (part ++ behind) count in
+    rw (front, take-append-le count part behind few) (came_joins chan (take done into) (take count part) before mid after first more)
+
+-- and one that is filled in part
+pub came_part : {E : Type 0} (answer : Result (Unit {0}) E) (chan : Chan) (count : ℕ) (into part behind : List ℕ) (before mid after : Option Traffic) → count ≤ length into
+    → Came chan (take count into) before mid → OnErr answer (CamePart chan part mid after) → OnErr answer (CamePart chan (take count into ++ (part ++ behind)) before after)
+came_part (Ok done) chan count into part behind before mid after within first more = more
+came_part (Err fault) chan count into part behind before mid after within first (n, less, more) =
+    let size : length (take count into ++ (part ++ behind)) ≡ count + (length part + length behind) =
+    length-append (take count into) (part ++ behind) ∙ ap (λ (k : ℕ). k + length (part ++ behind)) (length-take-le count into within) ∙ ap (λ (k : ℕ). count + k) (length-append part behind) in
+    (count + n, omega (arith, size, less), came_behind chan count n into part behind before mid after within (omega (arith, less)) first more)
+
+-- a piece that its fields tell, with its data
+pub tells_piece : (q : Request) (offset : ℕ) (before mid after : Option Traffic) (fixed old new : List ℕ) (judged answer : Result Piece ClientFault) (piece : Piece)
+    → length fixed ≡ 16 → Passed q [] fixed before mid → judged ≡ judged_fields (fields_in fixed) offset (length old) → judged ≡ Ok piece
+    → IfOk answer (λ p. p ≡ piece) → IfErr answer (λ fault. fault ≡ LinkFault) → OnOk answer (Came Ctrl (take piece.length new) mid after) → OnOk answer (drop piece.length new ≡ drop piece.length old)
+    → answer ≢ Err LinkFault → TellsPiece q offset before after old new answer
+tells_piece q offset before mid after fixed old new judged (Ok p) piece size first told is same link came rest answered =
+    record {
+      fixed = fixed;
+      size = size;
+      passed = rw same (passed_joins q [] fixed (take piece.length new) before mid after first came);
+      answer_is = ap Ok same ∙ sym is ∙ told;
+      rest = rw same rest;
+    }
+tells_piece q offset before mid after fixed old new judged (Err fault) piece size first told is same link came rest answered = absurd (answered (ap Err link))

@@ -1,0 +1,94 @@
+-- What passes over wires that keep it, whatever is behind them, and the answers that it makes. (Own definitions.)
+use Rattle.std.specs.Prelude.{◌≡◌, ℕ, ◌<◌, ◌==◌, if◌then◌else◌, List, [], ◌∷◌, ◌++◌, map, length, take, drop, Option, option_map, Result, Ok, Err}
+use Rattle.std.specs.Int.{w32, from_be_bytes}
+use Rattle.vt_base.specs.declared.words.Chan.{Chan}
+use Rattle.vt_base.specs.declared.words.Chan.TheVariants.{Ctrl}
+use Rattle.tpm_frame.specs.Frame.{number_at}
+use Rattle.state_blobs.specs.declared.words.Piece.{Piece}
+use Rattle.ctrl_codec.specs.declared.request.Request.{Request}
+use Rattle.ctrl_codec.specs.Requests.{spelling}
+use Rattle.ctrl_client.specs.declared.fault.ClientFault.{ClientFault}
+use Rattle.ctrl_client.specs.declared.fault.ClientFault.TheVariants.{Result as BadResult}
+use Rattle.ctrl_client.specs.declared.profile.TheConstants.{SUCCESS}
+use Rattle.ctrl_client.specs.Exchange.{judged_result}
+use Rattle.ctrl_client.specs.Pieces.{BlobFields, judged_fields}
+
+-- all bytes that were sent so far, and all that were received, each with its channel
+pub record Traffic : Type 0 where
+  pub sent : List (Chan × ℕ)
+  pub received : List (Chan × ℕ)
+
+-- these bytes, each with this channel
+abbrev pub over : Chan → List ℕ → List (Chan × ℕ)
+over chan bytes = map (λ byte. (chan, byte)) bytes
+
+abbrev pub with_sent : Chan → List ℕ → Traffic → Traffic
+with_sent chan bytes t = record t { sent = t.sent ++ over chan bytes }
+
+abbrev pub with_received : Chan → List ℕ → Traffic → Traffic
+with_received chan bytes t = record t { received = t.received ++ over chan bytes }
+
+-- what passed, after a send with this result
+abbrev pub after_send : {E : Type 0} → Chan → List ℕ → Result (Unit {0}) E → Traffic → Traffic
+after_send chan bytes (Ok done) t = with_sent chan bytes t
+after_send chan bytes (Err fault) t = t
+
+-- and after a receive with this result
+abbrev pub after_receive : {E : Type 0} → Chan → List ℕ → Result ℕ E → Traffic → Traffic
+after_receive chan into (Ok count) t = with_received chan (take count into) t
+after_receive chan into (Err fault) t = t
+
+-- These bytes were sent on a channel, and nothing else passed.
+abbrev pub Went : Chan → List ℕ → Option Traffic → Option Traffic → Type 0
+Went chan bytes before after = after ≡ option_map (with_sent chan bytes) before
+
+-- These bytes were received on a channel, and nothing else passed.
+abbrev pub Came : Chan → List ℕ → Option Traffic → Option Traffic → Type 0
+Came chan bytes before after = after ≡ option_map (with_received chan bytes) before
+
+-- Fewer bytes were received on a channel than were asked for. They stand in front, and nothing else passed.
+abbrev pub CamePart : Chan → List ℕ → Option Traffic → Option Traffic → Type 0
+CamePart chan into before after = (n : ℕ) × (n < length into) × Came chan (take n into) before after
+
+-- the bytes of a request with its data, in which those that mean nothing are zeros
+abbrev pub request_text : Request → List ℕ → List ℕ
+request_text q payload = spelling q (0 ∷ 0 ∷ 0 ∷ []) payload
+
+-- A request was sent with its data, then these bytes of the reply were received, and nothing else passed.
+abbrev pub Passed : Request → List ℕ → List ℕ → Option Traffic → Option Traffic → Type 0
+Passed q payload reply before after = after ≡ option_map (λ t. with_received Ctrl reply (with_sent Ctrl (request_text q payload) t)) before
+
+-- the answer is the result that stands in the four bytes that came
+pub record TellsResult (q : Request) (payload : List ℕ) (before after : Option Traffic) (answer : Result (Unit {0}) ClientFault) : Type 0 where
+  pub reply : List ℕ
+  pub size : length reply ≡ 4
+  pub passed : Passed q payload reply before after
+  pub answer_is : answer ≡ judged_result (from_be_bytes w32 reply)
+
+-- what is answered for a result and a size
+abbrev pub judged_size : ℕ → ℕ → Result ℕ ClientFault
+judged_size result size = if result == SUCCESS then Ok size else Err (BadResult result)
+
+-- the answer is the size that stands in the sixteen bytes that came, or their result
+pub record TellsSize (q : Request) (before after : Option Traffic) (answer : Result ℕ ClientFault) : Type 0 where
+  pub reply : List ℕ
+  pub size : length reply ≡ 16
+  pub passed : Passed q [] reply before after
+  pub answer_is : answer ≡ judged_size (number_at w32 0 reply) (number_at w32 4 reply)
+
+-- the fields in the sixteen bytes before the data
+abbrev pub fields_in : List ℕ → BlobFields
+fields_in fixed = record { result = number_at w32 0 fixed; flags = number_at w32 4 fixed; total = number_at w32 8 fixed; size = number_at w32 12 fixed }
+
+-- how many bytes of data come with an answer
+abbrev pub data_size : Result Piece ClientFault → ℕ
+data_size (Ok p) = p.length
+data_size (Err fault) = 0
+
+-- the answer is what the fields that came say, and the data that came stands in front of the rest of the slice
+pub record TellsPiece (q : Request) (offset : ℕ) (before after : Option Traffic) (old new : List ℕ) (answer : Result Piece ClientFault) : Type 0 where
+  pub fixed : List ℕ
+  pub size : length fixed ≡ 16
+  pub passed : Passed q [] (fixed ++ take (data_size answer) new) before after
+  pub answer_is : answer ≡ judged_fields (fields_in fixed) offset (length old)
+  pub rest : drop (data_size answer) new ≡ drop (data_size answer) old
