@@ -2,6 +2,7 @@ pub mod Apart
 pub mod Decided
 pub mod Reasons
 pub mod Room
+pub mod Rows
 pub mod Told
 pub mod Trims
 pub mod Values

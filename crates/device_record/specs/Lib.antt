@@ -1,3 +1,4 @@
 pub mod Layouts
 pub mod Records
 pub mod Restoring
+pub mod Rows

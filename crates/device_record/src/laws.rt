@@ -1,6 +1,6 @@
 //! Laws of records, for proofs above. Their calls do nothing.
 
-ghost use Rattle.std.specs.Prelude.{◌≡◌, ◌≢◌, ℕ, ◌<◌, ◌⊎◌, List, ◌++◌, length, take, drop, Ok};
+ghost use Rattle.std.specs.Prelude.{◌≡◌, ◌≢◌, ℕ, ◌<◌, ◌⊎◌, List, ◌++◌, length, take, drop, Some, Ok};
 ghost use Rattle.vt_base.specs.Numbers.{IsBytes};
 ghost use Rattle.vt_base.specs.Layout.{Spells};
 ghost use Rattle.vt_base.specs.Refusing.{malformed};
@@ -9,7 +9,8 @@ ghost use Rattle.vt_base.specs.declared.words.Malformed.{Malformed};
 ghost use Rattle.crb_machine.specs.Values.{DeviceValues, AreFit};
 ghost use Rattle.device_record.specs.declared.fields.Fields.{Fields};
 ghost use Rattle.device_record.specs.Records.{fields_of, values_of, record_text, IsRecord};
-ghost use Rattle.device_record.specs.Layouts.{record_layout, AreCut, GoOn, IsRefused};
+ghost use Rattle.device_record.specs.Layouts.{record_layout, HasRefusedField, AreCut, GoOn, IsRefused};
+ghost use Rattle.device_record.specs.Rows.{first_refused};
 
 /// Bytes are the record of some values, or refused for one reason at one place.
 #[tactic(auto, using(crate::proofs::Apart::text_is_record, crate::proofs::Apart::text_not_refused, crate::proofs::Apart::text_front_is_cut, crate::proofs::Apart::refused_once, crate::proofs::Apart::refused_stays, crate::proofs::Decided::decided, crate::proofs::Reasons::cut_is_cut, crate::proofs::Reasons::extra_goes_on, crate::proofs::Values::text_is_told, crate::proofs::Values::told_is_of_values))]
@@ -42,4 +43,11 @@ pub fn records_are_told_apart()
 #[tactic(auto, using(crate::proofs::Values::values_once))]
 pub fn records_are_told_once()
     ensures once { (v w : DeviceValues) → AreFit v → AreFit w → record_text v ≡ record_text w → v ≡ w }
+{}
+
+/// A field of bytes is refused exactly where a row holds, and the first that does says why and where.
+#[tactic(auto, using(crate::proofs::Rows::refused_by_rows, crate::proofs::Rows::rows_refuse))]
+pub fn records_are_refused_by_rows()
+    ensures by_rows { (fault : Malformed) (bytes : List ℕ) → HasRefusedField fault bytes → first_refused bytes ≡ Some fault }
+    ensures rows { (fault : Malformed) (bytes : List ℕ) → first_refused bytes ≡ Some fault → HasRefusedField fault bytes }
 {}

@@ -236,4 +236,5 @@ fn each_byte_changed_and_each_front(rt: HostRuntime) -> Result<(), Fail> {
 fn the_laws_do_nothing(_rt: HostRuntime) {
     laws::records_are_told_apart();
     laws::records_are_told_once();
+    laws::records_are_refused_by_rows();
 }

@@ -7,19 +7,19 @@ use vt_base::{Bytes, Chan, Failed, FaultPlan, Held, MemSource, Source};
 // Wires that give prepared bytes on one channel, so many at once at most, and keep what is sent and what is received.
 // They tell nothing of what is behind them. A call on the other channel fails.
 #[derive(Drop)]
-pub struct Script {
+pub(crate) struct Script {
     chan: Chan,
     source: MemSource,
     piece: usize,
-    pub sent: Held<LARGEST_FRAME>,
+    pub(crate) sent: Held<LARGEST_FRAME>,
     came: Held<LARGEST_FRAME>,
-    pub was_cut: bool,
+    pub(crate) was_cut: bool,
     plan: FaultPlan,
 }
 
 impl Script {
     // Wires whose call of the number `failing` fails, if it isn't 0.
-    pub fn new(
+    pub(crate) fn new(
         alloc: Global,
         chan: Chan,
         bytes: &[u8],
