@@ -5,7 +5,7 @@ use Rattle.std.proofs.lemmas.List.{length-append}
 use Rattle.std.proofs.lemmas.List.Sums.{sum_by-cons}
 use Rattle.tpm_frame.specs.Frames.{first_frame}
 use Rattle.tpm_frame.specs.declared.TheConstants.{HEADER_SIZE}
-use Rattle.vt_base.specs.Faults.{Rose}
+use Rattle.vt_base.specs.Faults.{IsCounted}
 use Rattle.crb_port.specs.Known.{Known}
 use Rattle.crb_port.specs.declared.job.Job.{Job}
 use Rattle.crb_worker.specs.declared.progress.Progress.{Progress}
@@ -129,12 +129,12 @@ cancelled_never Plan claimed q job after run quiet cancelled =
     (omega (arith, once.0, nothing), nothing_in (commands_of job) (omega (arith, once.1, nothing)))
 
 -- a job is lost where a call failed, or for its header
-pub lost_for : {Plan : Type 0} (p q : Progress) (k l : Known) (w v : Seen Plan) (number : ℕ) → Works p k w (Lost number) q l v → Rose w.faults v.faults ⊎ ReceivesNoHead w v
+pub lost_for : {Plan : Type 0} (p q : Progress) (k l : Known) (w v : Seen Plan) (number : ℕ) → Works p k w (Lost number) q l v → IsCounted w.faults v.faults ⊎ ReceivesNoHead w v
 lost_for progress.Free q k l w v number works = absurd works.0
-lost_for (progress.Claimed job) q k l w v number works = inl works.2.counts.rose
+lost_for (progress.Claimed job) q k l w v number works = inl works.2.counts
 lost_for (progress.Sent job) q k l w v number works = by_cause works.1
   where
-    by_cause : Receives false HEADER_SIZE w v ⊎ ReceivesNoHead w v → Rose w.faults v.faults ⊎ ReceivesNoHead w v
-    by_cause (inl failed) = inl failed.counts.rose
+    by_cause : Receives false HEADER_SIZE w v ⊎ ReceivesNoHead w v → IsCounted w.faults v.faults ⊎ ReceivesNoHead w v
+    by_cause (inl failed) = inl failed.counts
     by_cause (inr bad) = inr bad
-lost_for (progress.Run job head) q k l w v number works = inl works.2.counts.rose
+lost_for (progress.Run job head) q k l w v number works = inl works.2.counts

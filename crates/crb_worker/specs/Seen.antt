@@ -1,7 +1,7 @@
 -- What is seen of wires, and what the calls of one step do to it. (Own definitions.)
 use Rattle.std.specs.Prelude.{◌≡◌, ◌≤◌, ◌<◌, ℕ, Bool, true, false, not, List, length, take, Option, Some, IfSome}
 use Rattle.std.specs.Bool.{OnTrue, OnFalse}
-use Rattle.vt_base.specs.Faults.{Rose}
+use Rattle.vt_base.specs.Faults.{IsCounted}
 use Rattle.vt_base.specs.declared.words.Chan.TheVariants.{Data}
 use Rattle.ctrl_client.specs.Link.{Link, Goes, SentBy, received, at_hand}
 use Rattle.ctrl_client.specs.Traffic.{Traffic, Went, Came}
@@ -19,10 +19,10 @@ pub record Seen (Plan : Type 0) : Type 0 where
 abbrev pub wires_seen : {Plan : Type 0} → (Plan → Bool) → (Plan → Plan) → Option Link → Plan → ℕ → Option Traffic → Seen Plan
 wires_seen fails later link plan faults traffic = record { link = link; plan = plan; fails = fails plan; later = later plan; faults = faults; traffic = traffic }
 
--- the count of faults never falls, and a call that failed raised it
-pub record Counts {Plan : Type 0} (ok : Bool) (w v : Seen Plan) : Type 0 where
-  pub later : w.faults ≤ v.faults
-  pub rose : OnFalse ok (Rose w.faults v.faults)
+-- a call that failed was counted once, and any other left the count
+abbrev pub Counts : {Plan : Type 0} → Bool → Seen Plan → Seen Plan → Type 0
+Counts true w v = v.faults ≡ w.faults
+Counts false w v = IsCounted w.faults v.faults
 
 -- one send of a command, by whether it succeeded
 pub record Sends {Plan : Type 0} (ok : Bool) (command : List ℕ) (w v : Seen Plan) : Type 0 where

@@ -1,7 +1,7 @@
 //! Laws of the steps of one worker.
 
 ghost use Rattle.std.specs.Prelude.{◌≡◌, ◌≤◌, ◌++◌, ◌⊎◌, ℕ, List, length, true, []};
-ghost use Rattle.vt_base.specs.Faults.{Rose};
+ghost use Rattle.vt_base.specs.Faults.{IsCounted};
 ghost use Rattle.crb_port.specs.Known.{Known};
 ghost use Rattle.crb_port.specs.declared.job.Job.{Job};
 ghost use Rattle.crb_worker.specs.declared.progress.Progress.{Progress};
@@ -35,5 +35,5 @@ pub fn a_job_is_sent_once<W: Wires>()
 /// response.
 pub fn a_lost_job_has_its_cause<W: Wires>()
     ensures { (p q : Progress) (k l : Known) (w v : Seen W.Plan) (number : ℕ)
-        → Works p k w (Lost number) q l v → Rose w.faults v.faults ⊎ ReceivesNoHead w v }
+        → Works p k w (Lost number) q l v → IsCounted w.faults v.faults ⊎ ReceivesNoHead w v }
 {}

@@ -11,6 +11,7 @@ use Rattle.ctrl_client.specs.declared.profile.TheConstants.{SUCCESS}
 use Rattle.ctrl_client.specs.Desk.{Turn, Obeys}
 use Rattle.ctrl_client.specs.Link.{Link, empty_lane, with_turn, taken}
 use Rattle.vt_base.specs.declared.words.Chan.TheVariants.{Ctrl}
+use Rattle.vt_base.specs.Faults.{IsCounted}
 use Rattle.ctrl_client.specs.Plan.{fails_within, plan_after}
 
 -- no byte waits on the control channel, and it is open
@@ -91,3 +92,8 @@ CommandedBy false lost q bytes l answer after =
 pub record Commands {P : Type 0} (fails : P → Bool) (later : P → P) (q : Request) (bytes : List ℕ) (l : Link) (plan : P) (answer : Result (Unit {0}) ClientFault) (after : Option Link) (plan_now : P) : Type 0 where
   pub plan_is : plan_now ≡ plan_after fails later (calls_of bytes) plan
   pub link : CommandedBy (fails_within fails later (sends_of bytes) plan) (fails_within fails later (calls_of bytes) plan) q bytes l answer after
+
+-- with `Link` one fault of the wires was counted, and with any other answer none
+abbrev pub CountsLink : {T : Type 0} → ℕ → ℕ → Result T ClientFault → Type 0
+CountsLink before now (Err LinkFault) = IsCounted before now
+CountsLink before now answer = now ≡ before

@@ -1,10 +1,10 @@
 //! What is asked over a link.
 ghost use Rattle.std.specs.Prelude.{◌≡◌, ◌≢◌, ◌<◌, ◌≤◌, ℕ, [], length, is_ok, Some, Err, IfSome, OnOk};
-ghost use Rattle.vt_base.specs.Faults.{HasCause, Rose};
+ghost use Rattle.vt_base.specs.Faults.{Counts};
 ghost use Rattle.ctrl_codec.specs.Requests.{HasData, IsInRange};
 ghost use Rattle.ctrl_codec.specs.Replies.{reply_spelling};
 ghost use Rattle.ctrl_client.specs.Desk.{Desk, Turn, Obeys, kind_of, type_of};
-ghost use Rattle.ctrl_client.specs.Exchange.{IsQuiet, Sends, Exchanges, HasResult, Commands};
+ghost use Rattle.ctrl_client.specs.Exchange.{IsQuiet, Sends, Exchanges, HasResult, Commands, CountsLink};
 ghost use Rattle.ctrl_client.specs.Traffic.{Went, Passed, TellsResult, request_text};
 
 use crate::fault::ClientFault;
@@ -21,7 +21,7 @@ fn send_request<W: Wires>(wires: &mut W, request: &Request, payload: &[u8]) -> R
     ensures told { IfSome (W.link wires.old) (λ l. IsQuiet l
         → Sends W.fails W.later request.now payload.now l (W.plan wires.old) (is_ok result) (W.link wires.new) (W.plan wires.new)) }
     ensures went { OnOk result (Went Chan.Ctrl (request_text request.now payload.now) (W.traffic wires.old) (W.traffic wires.new)) }
-    ensures cause { HasCause (W.faults wires.old) (W.faults wires.new) result }
+    ensures counts { Counts (W.faults wires.old) (W.faults wires.new) result }
 {
     let mut out = Out::new();
     write_request(request, payload, &mut out);
@@ -49,7 +49,7 @@ pub(crate) fn exchange<W: Wires>(
         → Exchanges W.fails W.later request.now payload.now l (W.plan wires.old) (is_ok result) reply.new (W.link wires.new) (W.plan wires.new)) }
     ensures passed { OnOk result (Passed request.now payload.now reply.new (W.traffic wires.old) (W.traffic wires.new)) }
     ensures size { length reply.new ≡ length reply.old }
-    ensures cause { HasCause (W.faults wires.old) (W.faults wires.new) result }
+    ensures counts { Counts (W.faults wires.old) (W.faults wires.new) result }
 {
     send_request(wires, request, payload)?;
     receive_whole(wires, Chan::Ctrl, reply)
@@ -65,7 +65,7 @@ fn command<W: Wires>(wires: &mut W, request: &Request, payload: &[u8]) -> Result
 
     // Over any wires.
     ensures reply { result ≢ Err ClientFault.Link → TellsResult request.now payload.now (W.traffic wires.old) (W.traffic wires.new) result }
-    ensures link { result ≡ Err ClientFault.Link → Rose (W.faults wires.old) (W.faults wires.new) }
+    ensures counts { CountsLink (W.faults wires.old) (W.faults wires.new) result }
     ensures refused { (number : ℕ) → result ≡ Err (ClientFault.Result number) → number ≢ 0 }
     ensures no_reply { (place : ℕ) → result ≢ Err (ClientFault.Reply place) }
 {
@@ -100,7 +100,7 @@ pub fn init<W: Wires>(wires: &mut W, flags: u32) -> Result<(), ClientFault>
 
     // Over any wires.
     ensures reply { result ≢ Err ClientFault.Link → TellsResult (Request.Init flags) [] (W.traffic wires.old) (W.traffic wires.new) result }
-    ensures link { result ≡ Err ClientFault.Link → Rose (W.faults wires.old) (W.faults wires.new) }
+    ensures counts { CountsLink (W.faults wires.old) (W.faults wires.new) result }
     ensures refused { (number : ℕ) → result ≡ Err (ClientFault.Result number) → number ≢ 0 }
     ensures no_reply { (place : ℕ) → result ≢ Err (ClientFault.Reply place) }
 {
@@ -115,7 +115,7 @@ pub fn stop<W: Wires>(wires: &mut W) -> Result<(), ClientFault>
 
     // Over any wires.
     ensures reply { result ≢ Err ClientFault.Link → TellsResult Request.Stop [] (W.traffic wires.old) (W.traffic wires.new) result }
-    ensures link { result ≡ Err ClientFault.Link → Rose (W.faults wires.old) (W.faults wires.new) }
+    ensures counts { CountsLink (W.faults wires.old) (W.faults wires.new) result }
     ensures refused { (number : ℕ) → result ≡ Err (ClientFault.Result number) → number ≢ 0 }
     ensures no_reply { (place : ℕ) → result ≢ Err (ClientFault.Reply place) }
 {
@@ -130,7 +130,7 @@ pub fn cancel<W: Wires>(wires: &mut W) -> Result<(), ClientFault>
 
     // Over any wires.
     ensures reply { result ≢ Err ClientFault.Link → TellsResult Request.CancelCommand [] (W.traffic wires.old) (W.traffic wires.new) result }
-    ensures link { result ≡ Err ClientFault.Link → Rose (W.faults wires.old) (W.faults wires.new) }
+    ensures counts { CountsLink (W.faults wires.old) (W.faults wires.new) result }
     ensures refused { (number : ℕ) → result ≡ Err (ClientFault.Result number) → number ≢ 0 }
     ensures no_reply { (place : ℕ) → result ≢ Err (ClientFault.Reply place) }
 {
@@ -147,7 +147,7 @@ pub fn put_piece<W: Wires>(wires: &mut W, kind: Kind, bytes: &[u8]) -> Result<()
 
     // Over any wires.
     ensures reply { result ≢ Err ClientFault.Link → TellsResult (Request.SetStateBlob 0 (type_of kind) (length bytes.now)) bytes.now (W.traffic wires.old) (W.traffic wires.new) result }
-    ensures link { result ≡ Err ClientFault.Link → Rose (W.faults wires.old) (W.faults wires.new) }
+    ensures counts { CountsLink (W.faults wires.old) (W.faults wires.new) result }
     ensures refused { (number : ℕ) → result ≡ Err (ClientFault.Result number) → number ≢ 0 }
     ensures no_reply { (place : ℕ) → result ≢ Err (ClientFault.Reply place) }
 {

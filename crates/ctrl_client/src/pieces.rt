@@ -1,11 +1,11 @@
 //! A piece of a blob, and the size of the buffer.
 ghost use Rattle.std.specs.Prelude.{◌≡◌, ◌≢◌, ◌≤◌, ℕ, length, take, drop, nat_lt, Err, IfOk, IfErr, IfSome, OnOk};
-ghost use Rattle.vt_base.specs.Faults.{Rose};
 ghost use Rattle.tpm_frame.specs.Frame.{number_at};
 ghost use Rattle.std.specs.Int.{w32};
 ghost use Rattle.ctrl_client.specs.Desk.{type_of};
 ghost use Rattle.ctrl_client.specs.Link.{empty_lane, at_hand};
 ghost use Rattle.ctrl_client.specs.Pieces.{judged_fields, IsPiece, IsPlace, HasField, Fetches, TakesData, IsSized, Sizes};
+ghost use Rattle.ctrl_client.specs.Exchange.{CountsLink};
 ghost use Rattle.ctrl_client.specs.Traffic.{Came, fields_in, TellsPiece, TellsSize};
 
 use crate::client::{exchange, type_of};
@@ -89,7 +89,7 @@ pub fn get_piece<W: Wires>(
     // Over any wires.
     ensures reply { result ≢ Err ClientFault.Link → TellsPiece (Request.GetStateBlob 0 (type_of kind) offset) offset (W.traffic wires.old) (W.traffic wires.new) into.old into.new result }
     ensures piece { IfOk result (IsPiece offset (length into.old)) }
-    ensures link { result ≡ Err ClientFault.Link → Rose (W.faults wires.old) (W.faults wires.new) }
+    ensures counts { CountsLink (W.faults wires.old) (W.faults wires.new) result }
     ensures refused { (number : ℕ) → result ≡ Err (ClientFault.Result number) → number ≢ 0 }
     ensures place { (place : ℕ) → result ≡ Err (ClientFault.Reply place) → IsPlace place }
 
@@ -128,8 +128,7 @@ fn receive_data<W: Wires>(
     ensures came { OnOk result (Came Chan.Ctrl (take piece.length into.new) (W.traffic wires.old) (W.traffic wires.new)) }
     ensures rest { OnOk result (drop piece.length into.new ≡ drop piece.length into.old) }
     ensures fault { IfErr result (λ fault. fault ≡ ClientFault.Link) }
-    ensures link { result ≡ Err ClientFault.Link → Rose (W.faults wires.old) (W.faults wires.new) }
-    ensures later { W.faults wires.old ≤ W.faults wires.new }
+    ensures counts { CountsLink (W.faults wires.old) (W.faults wires.new) result }
 {
     if piece.length == 0 {
         return Ok(piece);
@@ -150,7 +149,7 @@ pub fn set_buffer<W: Wires>(wires: &mut W, size: u32) -> Result<u32, ClientFault
 
     // Over any wires.
     ensures reply { result ≢ Err ClientFault.Link → TellsSize (Request.SetBufferSize size) (W.traffic wires.old) (W.traffic wires.new) result }
-    ensures link { result ≡ Err ClientFault.Link → Rose (W.faults wires.old) (W.faults wires.new) }
+    ensures counts { CountsLink (W.faults wires.old) (W.faults wires.new) result }
     ensures refused { (number : ℕ) → result ≡ Err (ClientFault.Result number) → number ≢ 0 }
     ensures no_reply { (place : ℕ) → result ≢ Err (ClientFault.Reply place) }
 {

@@ -1,6 +1,6 @@
 //! A receive that is repeated for the rest.
 ghost use Rattle.std.specs.Prelude.{◌≡◌, ◌≤◌, ◌<◌, length, true, is_ok, IfSome, OnOk, OnErr};
-ghost use Rattle.vt_base.specs.Faults.{HasCause};
+ghost use Rattle.vt_base.specs.Faults.{Counts};
 ghost use Rattle.ctrl_client.specs.Link.{at_hand};
 ghost use Rattle.ctrl_client.specs.Whole.{ReceivesWhole};
 ghost use Rattle.ctrl_client.specs.Traffic.{Came, CamePart};
@@ -19,7 +19,7 @@ pub fn receive_whole<W: Wires>(wires: &mut W, chan: Chan, into: &mut [u8]) -> Re
     // Over any wires.
     ensures came { OnOk result (Came chan into.new (W.traffic wires.old) (W.traffic wires.new)) }
     ensures part { OnErr result (CamePart chan into.new (W.traffic wires.old) (W.traffic wires.new)) }
-    ensures cause { HasCause (W.faults wires.old) (W.faults wires.new) result }
+    ensures counts { Counts (W.faults wires.old) (W.faults wires.new) result }
 {
     let count = wires.receive(chan, into)?;
     receive_rest(wires, chan, &mut into[count..])
@@ -31,7 +31,7 @@ fn receive_rest<W: Wires>(wires: &mut W, chan: Chan, into: &mut [u8]) -> Result<
     ensures sure { length into.old ≡ 0 → is_ok result ≡ true }
     ensures came { OnOk result (Came chan into.new (W.traffic wires.old) (W.traffic wires.new)) }
     ensures part { OnErr result (CamePart chan into.new (W.traffic wires.old) (W.traffic wires.new)) }
-    ensures cause { HasCause (W.faults wires.old) (W.faults wires.new) result }
+    ensures counts { Counts (W.faults wires.old) (W.faults wires.new) result }
 {
     let mut done = 0;
     while done < into.len() {

@@ -1,7 +1,7 @@
 //! The link to one emulator.
 ghost use Rattle.std.specs.Prelude.{◌≡◌, ◌<◌, ◌&&◌, ℕ, List, Option, Bool, not, length, take, is_ok, option_map, IfOk, IfSome};
 ghost use Rattle.std.specs.Io.{ReadsAtMost};
-ghost use Rattle.vt_base.specs.Faults.{HasCause};
+ghost use Rattle.vt_base.specs.Faults.{Counts};
 ghost use Rattle.ctrl_client.specs.Desk.{is_nil};
 ghost use Rattle.ctrl_client.specs.Link.{Link, Goes, SentBy, received, cut, at_hand};
 ghost use Rattle.ctrl_client.specs.Traffic.{after_send, after_receive};
@@ -37,7 +37,7 @@ pub trait Wires {
         ensures fails { IfSome (link self.old) (λ _. is_ok result ≡ not (fails (plan self.old))) }
         ensures plan { IfSome (link self.old) (λ _. plan self.new ≡ later (plan self.old)) }
         ensures traffic { traffic self.new ≡ option_map (after_send chan bytes.now result) (traffic self.old) }
-        ensures cause { HasCause (faults self.old) (faults self.new) result };
+        ensures counts { Counts (faults self.old) (faults self.new) result };
 
     /// Gives the next bytes: at least one, unless the slice is empty.
     fn receive(&mut self, chan: Chan, into: &mut [u8]) -> Result<usize, Failed>
@@ -48,7 +48,7 @@ pub trait Wires {
         ensures fails { IfSome (link self.old) (λ l. is_ok result ≡ (not (fails (plan self.old)) && not (is_nil (at_hand chan l)))) }
         ensures plan { IfSome (link self.old) (λ _. plan self.new ≡ later (plan self.old)) }
         ensures traffic { traffic self.new ≡ option_map (after_receive chan into.new result) (traffic self.old) }
-        ensures cause { HasCause (faults self.old) (faults self.new) result };
+        ensures counts { Counts (faults self.old) (faults self.new) result };
 
     /// Forgets the bytes that wait on a channel.
     fn cut(&mut self, chan: Chan)

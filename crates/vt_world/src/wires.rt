@@ -1,6 +1,6 @@
 //! Wires in memory.
 ghost use Rattle.std.specs.Prelude.{◌≡◌, ◌-◌, ◌≤◌, Some, None, [], IfOk, length, take, min};
-ghost use Rattle.vt_base.specs.Faults.{Rose};
+ghost use Rattle.vt_base.specs.Faults.{IsCounted};
 ghost use Rattle.tpm_core.specs.Fresh.{manufactured};
 ghost use Rattle.ctrl_client.specs.Desk.{is_nil};
 ghost use Rattle.ctrl_client.specs.Link.{cut, Handed, opened, lane_of, taken};
@@ -117,8 +117,7 @@ impl MemWires {
     fn fault(&mut self, chan: Chan)
         ensures link { self.new.link ≡ cut chan self.old.link }
         ensures due { self.new.due ≡ self.old.due }
-        ensures faults { Rose self.old.faults self.new.faults }
-        ensures later { self.old.faults ≤ self.new.faults }
+        ensures faults { IsCounted self.old.faults self.new.faults }
     {
         self.forget(chan);
         self.faults = self.faults.saturating_add(1);
