@@ -39,6 +39,20 @@ fn answers(rt: &impl Abort, world: &mut World) {
     assert_eq!(rt; world.step(&Event::Ask), Reply::Asked);
 }
 
+// Whether the emulator behind these wires has a TPM.
+fn has_tpm(wires: MemWires) -> bool {
+    let has = wires.emulator().tpm().is_some();
+    drop(wires);
+    has
+}
+
+#[test]
+fn wires_with_and_without_a_tpm(rt: HostRuntime) -> Result<(), Fail> {
+    assert!(rt; has_tpm(MemWires::new(rt.alloc(), [0; SEED_SIZE], 4096)?));
+    assert!(rt; !has_tpm(MemWires::empty(rt.alloc(), 4096)?));
+    Ok(())
+}
+
 #[test]
 fn a_new_world_answers(rt: HostRuntime) -> Result<(), Fail> {
     for piece in [1, 7, 4096] {
