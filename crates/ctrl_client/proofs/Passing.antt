@@ -1,8 +1,8 @@
 -- Bytes that pass one call after the other.
-use Rattle.std.proofs.Common.{◌≡◌, ◌≢◌, ℕ, ◌+◌, ◌≤◌, List, [], ◌∷◌, ◌++◌, length, take, drop, Option, Some, None, Result, Ok, Err, refl, sym, ap, ◌∙◌, append_assoc, arith}
+use Rattle.std.proofs.Common.{◌≡◌, ◌≢◌, ℕ, ◌+◌, ◌≤◌, List, [], ◌++◌, length, take, drop, Option, Some, None, Result, Ok, Err, sym, ap, ◌∙◌, append_assoc, arith}
 use Rattle.std.specs.Prelude.{option_map, IfOk, IfErr, OnOk, OnErr}
 use Rattle.std.proofs.Math.Seq.{take-append-add}
-use Rattle.std.proofs.lemmas.List.{length-take-le, take-append-le, length-append}
+use Rattle.std.proofs.lemmas.List.{length-take-le, take-append-le, length-append, map-append}
 use Rattle.vt_base.specs.declared.words.Chan.{Chan}
 use Rattle.vt_base.specs.declared.words.Chan.TheVariants.{Ctrl}
 use Rattle.state_blobs.specs.declared.words.Piece.{Piece}
@@ -12,13 +12,9 @@ use Rattle.ctrl_client.specs.declared.fault.ClientFault.TheVariants.{Link as Lin
 use Rattle.ctrl_client.specs.Pieces.{judged_fields}
 use Rattle.ctrl_client.specs.Traffic.{Traffic, over, with_sent, with_received, Came, CamePart, Passed, request_text, fields_in, TellsPiece}
 
-over_joins : (chan : Chan) (first bytes : List ℕ) → over chan first ++ over chan bytes ≡ over chan (first ++ bytes)
-over_joins chan [] bytes = refl
-over_joins chan (byte ∷ first) bytes = ap (λ (more : List (Chan × ℕ)). (chan, byte) ∷ more) (over_joins chan first bytes)
-
 -- bytes behind others, and both over one channel
 behind : (chan : Chan) (was : List (Chan × ℕ)) (first bytes : List ℕ) → (was ++ over chan first) ++ over chan bytes ≡ was ++ over chan (first ++ bytes)
-behind chan was first bytes = append_assoc was (over chan first) (over chan bytes) ∙ ap (λ (more : List (Chan × ℕ)). was ++ more) (over_joins chan first bytes)
+behind chan was first bytes = append_assoc was (over chan first) (over chan bytes) ∙ ap (λ (more : List (Chan × ℕ)). was ++ more) (sym (map-append (λ (byte : ℕ). (chan, byte)) first bytes))
 
 -- bytes and the bytes behind them
 pub came_joins : (chan : Chan) (first bytes : List ℕ) (before mid after : Option Traffic) → Came chan first before mid → Came chan bytes mid after → Came chan (first ++ bytes) before after

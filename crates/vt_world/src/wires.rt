@@ -203,7 +203,7 @@ impl Wires for MemWires {
 
     ghost later = { passed };
 
-    // What comes is told by the link.
+    // What passes is told by the link.
     ghost traffic = { λ _. None };
 
     fn send(&mut self, chan: Chan, bytes: &[u8]) -> Result<(), Failed> {
