@@ -1,10 +1,10 @@
 -- What each call of the driver did to the bus, by its answer. (Own definitions.)
 use Rattle.std.specs.Prelude.{◌≡◌, ◌≢◌, ◌<◌, ◌↔◌, ℕ, Bool, true, false, IsTrue, List, [], ◌∷◌, ◌++◌, All, length}
-use Rattle.crb_regs.specs.declared.registers.TheConstants.{CTRL_STS}
+use Rattle.crb_regs.specs.Numbers as numbers
 use Rattle.vt_base.specs.Numbers.{number}
 use Rattle.crb_driver.specs.declared.fault.DriverFault.{DriverFault}
 use Rattle.crb_driver.specs.declared.fault.DriverFault.TheVariants.{Size, NotGranted, NotReady, TimedOut, Fatal, BadResponse}
-use Rattle.crb_driver.specs.Bits.{IsSet, IsClear, granted_mask, idle_mask, lost_mask}
+use Rattle.crb_driver.specs.Bits.{IsSet, IsClear}
 use Rattle.crb_driver.specs.Bus.{Exchange, Relation, Reaches}
 use Rattle.crb_driver.specs.Sizes.{IsBadLength, reported}
 use Rattle.crb_driver.specs.Accesses.{register_read, request_accesses, ready_accesses, start_accesses, poll_accesses, size_accesses, finish_accesses}
@@ -13,21 +13,21 @@ use Rattle.crb_driver.specs.Accesses.{register_read, request_accesses, ready_acc
 pub record Starts {S : Type 0} (step : Relation S) (old : S) (command : List ℕ) (new : S) : Type 0 where
   pub loc_sts : ℕ
   pub ctrl_sts : ℕ
-  pub granted : IsSet granted_mask loc_sts
-  pub ready : IsClear idle_mask ctrl_sts
+  pub granted : IsSet numbers.granted loc_sts
+  pub ready : IsClear numbers.tpm_idle ctrl_sts
   pub reaches : Reaches step old (start_accesses command loc_sts ctrl_sts) new
 
 -- the interface was still idle after cmdReady, by this CTRL_STS
 pub record StaysIdle {S : Type 0} (step : Relation S) (old : S) (ctrl_sts : ℕ) (new : S) : Type 0 where
   pub loc_sts : ℕ
-  pub granted : IsSet granted_mask loc_sts
-  pub idle : IsSet idle_mask ctrl_sts
+  pub granted : IsSet numbers.granted loc_sts
+  pub idle : IsSet numbers.tpm_idle ctrl_sts
   pub reaches : Reaches step old (ready_accesses loc_sts ctrl_sts) new
 
 -- why a command wasn't started, what the fault carries, and the accesses up to the read that shows it
 abbrev pub FailsToStart : {S : Type 0} → Relation S → S → List ℕ → DriverFault → S → Type 0
 FailsToStart step old command (Size n) new = (n ≡ reported (length command)) × (old ≡ new)
-FailsToStart step old command (NotGranted n) new = IsClear granted_mask n × Reaches step old (request_accesses n) new
+FailsToStart step old command (NotGranted n) new = IsClear numbers.granted n × Reaches step old (request_accesses n) new
 FailsToStart step old command (NotReady n) new = StaysIdle step old n new
 FailsToStart step old command (TimedOut n) new = ⊥
 FailsToStart step old command (Fatal n) new = ⊥
@@ -42,19 +42,19 @@ pub record Polls {S : Type 0} (step : Relation S) (old : S) (ended : Bool) (new 
 -- the response was read and the interface given back: the TPM can be used, and the size field named the response's length
 pub record Finishes {S : Type 0} (step : Relation S) (old : S) (response : List ℕ) (new : S) : Type 0 where
   pub ctrl_sts : ℕ
-  pub usable : IsClear lost_mask ctrl_sts
+  pub usable : IsClear numbers.tpm_sts ctrl_sts
   pub reaches : Reaches step old (finish_accesses ctrl_sts (number (length response)) response) new
 
 -- the size field named a length that no response for this room can have
 pub record NamesBadLength {S : Type 0} (step : Relation S) (old : S) (room : ℕ) (n : ℕ) (new : S) : Type 0 where
   pub ctrl_sts : ℕ
-  pub usable : IsClear lost_mask ctrl_sts
+  pub usable : IsClear numbers.tpm_sts ctrl_sts
   pub bad : IsBadLength room n
   pub reaches : Reaches step old (size_accesses ctrl_sts (number n)) new
 
 -- why a response wasn't read, what the fault carries, and the accesses up to the read that shows it
 abbrev pub FailsToFinish : {S : Type 0} → Relation S → S → ℕ → DriverFault → S → Type 0
-FailsToFinish step old room (Fatal n) new = IsSet lost_mask n × Reaches step old (register_read CTRL_STS n ∷ []) new
+FailsToFinish step old room (Fatal n) new = IsSet numbers.tpm_sts n × Reaches step old (register_read numbers.ctrl_sts n ∷ []) new
 FailsToFinish step old room (BadResponse n) new = NamesBadLength step old room n new
 FailsToFinish step old room (Size n) new = ⊥
 FailsToFinish step old room (NotGranted n) new = ⊥
@@ -69,8 +69,8 @@ pub record Readings : Type 0 where
 
 -- access was granted, the interface had left the idle state, and START wasn't 0
 pub record AreWaiting (seen : Readings) : Type 0 where
-  pub granted : IsSet granted_mask seen.loc_sts
-  pub ready : IsClear idle_mask seen.ctrl_sts
+  pub granted : IsSet numbers.granted seen.loc_sts
+  pub ready : IsClear numbers.tpm_idle seen.ctrl_sts
   pub busy : All (λ value. value ≢ 0) seen.busy
 
 -- the command was started and START was read these times
@@ -98,13 +98,13 @@ pub record TimesOut {S : Type 0} (step : Relation S) (old : S) (command : List �
 -- the command was run and this response was read
 pub record Answers {S : Type 0} (step : Relation S) (old : S) (command : List ℕ) (polls : ℕ) (response : List ℕ) (new : S) : Type 0 where
   pub ctrl_sts : ℕ
-  pub usable : IsClear lost_mask ctrl_sts
+  pub usable : IsClear numbers.tpm_sts ctrl_sts
   pub runs : RunsThen step old command polls (finish_accesses ctrl_sts (number (length response)) response) new
 
 -- the command was run, and the size field named a length that no response for this room can have
 pub record AnswersBadLength {S : Type 0} (step : Relation S) (old : S) (command : List ℕ) (polls : ℕ) (room : ℕ) (n : ℕ) (new : S) : Type 0 where
   pub ctrl_sts : ℕ
-  pub usable : IsClear lost_mask ctrl_sts
+  pub usable : IsClear numbers.tpm_sts ctrl_sts
   pub bad : IsBadLength room n
   pub runs : RunsThen step old command polls (size_accesses ctrl_sts (number n)) new
 
@@ -114,7 +114,7 @@ Fails step old command polls room (Size n) new = FailsToStart step old command (
 Fails step old command polls room (NotGranted n) new = FailsToStart step old command (NotGranted n) new
 Fails step old command polls room (NotReady n) new = FailsToStart step old command (NotReady n) new
 Fails step old command polls room (TimedOut n) new = (n ≡ polls) × TimesOut step old command polls new
-Fails step old command polls room (Fatal n) new = IsSet lost_mask n × RunsThen step old command polls (register_read CTRL_STS n ∷ []) new
+Fails step old command polls room (Fatal n) new = IsSet numbers.tpm_sts n × RunsThen step old command polls (register_read numbers.ctrl_sts n ∷ []) new
 Fails step old command polls room (BadResponse n) new = AnswersBadLength step old command polls room n new
 
 -- START was read so many times and never was 0

@@ -9,11 +9,11 @@ ghost use Rattle.crb_driver.specs.Calls.{Answers, Fails, FailsToFinish, FailsToS
 use crate::access::{read_bytes, read_register, read_size, write_bytes, write_register};
 use crate::bus::Bus;
 use crate::fault::DriverFault;
-use crate::registers::{
-    CMD_READY, GO_IDLE, GRANTED, NO_CANCEL, RELINQUISH, REQUEST_ACCESS, START, TPM_IDLE, TPM_STS,
-};
 use crate::sizes::{is_bad_length, reported_length};
-use crb_regs::{CTRL_CANCEL, CTRL_REQ, CTRL_START, CTRL_STS, DATA_BUFFER, LOC_CTRL, LOC_STS};
+use crb_regs::{
+    CMD_READY, CTRL_CANCEL, CTRL_REQ, CTRL_START, CTRL_STS, DATA_BUFFER, GO_IDLE, GRANTED,
+    LOC_CTRL, LOC_STS, NO_CANCEL, RELINQUISH, REQUEST_ACCESS, START, TPM_IDLE, TPM_STS,
+};
 use tpm_frame::is_well_sized;
 
 /// A driver of one interface. It keeps nothing: what goes on is told by the bus.

@@ -16,6 +16,3 @@ mod sizes;
 pub use bus::Bus;
 pub use driver::Driver;
 pub use fault::DriverFault;
-pub use registers::{
-    CMD_READY, GO_IDLE, GRANTED, NO_CANCEL, RELINQUISH, REQUEST_ACCESS, START, TPM_IDLE, TPM_STS,
-};

@@ -3,10 +3,10 @@ use Rattle.std.specs.Prelude.{◌≡◌, ◌≢◌, ℕ, ◌+◌, ◌-◌, ◌%�
 use Rattle.vt_base.specs.Buffer.{zeros}
 use Rattle.crb_regs.specs.Access.{Access}
 use Rattle.crb_regs.specs.Effects.{effect}
-use Rattle.crb_regs.specs.Registers.{register_byte}
+use Rattle.crb_regs.specs.Registers.{register_byte, reset_regs}
 use Rattle.crb_regs.specs.declared.registers.Regs.{Regs}
 use Rattle.crb_regs.specs.declared.phase.Phase.{Phase}
-use Rattle.crb_regs.specs.declared.phase.Phase.TheVariants.{Idle, Ready, Reception, Completion, Lost}
+use Rattle.crb_regs.specs.declared.phase.Phase.TheVariants.{Ready, Reception, Completion, Lost}
 use Rattle.crb_regs.specs.declared.effect.Effect.{Effect}
 use Rattle.crb_regs.specs.declared.effect.Effect.TheVariants.{Start}
 use Rattle.crb_machine.specs.Phases.{next_phase, granted_after, cancel_after}
@@ -18,10 +18,6 @@ use Rattle.crb_port.specs.declared.job.Job.{Job}
 use Rattle.crb_port.specs.declared.job.Answer.{Answer}
 use Rattle.crb_machine.specs.declared.device.NotYet.{NotYet}
 use Rattle.crb_machine.specs.State.Slot.{Home, Queued, Claimed, Answered}
-
--- the registers after a reset
-abbrev pub reset_regs : Regs
-reset_regs = record { granted = false; cancel = false; phase = Idle }
 
 -- a device after a reset, before its first job
 abbrev pub fresh_state : DeviceState

@@ -1,5 +1,5 @@
 -- The values of a device: what of it outlives a suspension or a move to another host. (Own definitions.)
-use Rattle.std.specs.Prelude.{◌≡◌, ℕ, ◌^◌, ◌<◌, Bool, true, false, not, List, [], length, if◌then◌else◌, unwrap_or}
+use Rattle.std.specs.Prelude.{◌≡◌, ℕ, ◌^◌, ◌<◌, Bool, true, false, not, List, [], length, if◌then◌else◌, Some, unwrap_or}
 use Rattle.vt_base.specs.Buffer.{zeros}
 use Rattle.vt_base.specs.Numbers.{IsBytes}
 use Rattle.crb_regs.specs.Registers.{is_executing, is_lost}
@@ -7,8 +7,9 @@ use Rattle.crb_regs.specs.declared.phase.Phase.{Phase}
 use Rattle.crb_regs.specs.declared.phase.Phase.TheVariants.{Idle, Execution}
 use Rattle.crb_port.specs.declared.job.Job.{Job}
 use Rattle.crb_machine.specs.State.{DeviceState, Slot, is_home}
+use Rattle.crb_machine.specs.Steps.{fresh_state}
 use Rattle.crb_machine.specs.State.Slot.{Home, Queued, Claimed, Answered}
-use Rattle.crb_machine.specs.declared.parts.DeviceParts.{DeviceParts}
+use Rattle.crb_machine.specs.Model.{DeviceModel}
 
 -- the values of a device: access, CANCEL, the phase, whether the waiting job was cancelled, the buffer's bytes, and
 -- the number of the last job
@@ -19,9 +20,6 @@ pub record DeviceValues : Type 0 where
   pub cancelled : Bool
   pub content : List ℕ
   pub number : ℕ
-
-abbrev pub fresh_device : DeviceValues
-fresh_device = record { granted = false; cancel = false; phase = Idle; cancelled = false; content = zeros 3968; number = 0 }
 
 -- the values that a device can have which isn't lost
 pub record AreFit (v : DeviceValues) : Type 0 where
@@ -54,6 +52,10 @@ values_at d = record {
   number = d.number;
 }
 
+-- the values of a device after a reset, before its first job
+abbrev pub fresh_device : DeviceValues
+fresh_device = values_at fresh_state
+
 -- the job that a device with these values has wait
 abbrev pub waiting_job : DeviceValues → Job
 waiting_job v = record { number = v.number; cancelled = v.cancelled; buf = v.content }
@@ -80,7 +82,7 @@ pub record IsUnclaimed (d : DeviceState) : Type 0 where
   pub phase : is_executing d.regs.phase ≡ not (is_home d.slot)
 
 -- the values of a held device
-abbrev pub held_values : {P : Type 0} → DeviceParts P → DeviceValues
+abbrev pub held_values : {P : Type 0} → DeviceModel P → DeviceValues
 held_values d = record {
   granted = d.regs.granted;
   cancel = d.regs.cancel;
@@ -88,4 +90,13 @@ held_values d = record {
   cancelled = d.cancelled;
   content = unwrap_or d.home [];
   number = d.number;
+}
+
+-- the held device with these values
+abbrev pub with_values : {P : Type 0} → DeviceValues → DeviceModel P → DeviceModel P
+with_values v d = record d {
+  regs = record { granted = v.granted; cancel = v.cancel; phase = v.phase };
+  number = v.number;
+  home = Some v.content;
+  cancelled = v.cancelled;
 }

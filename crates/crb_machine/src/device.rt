@@ -2,9 +2,9 @@
 ghost use Rattle.std.specs.Prelude.{◌≡◌, ◌≢◌, ◌^◌, ◌<◌, ◌≤◌, [], length, true, false, Some, None, Ok, IfOk, IfErr, IfSome, OnOk, OnErr, IsSome, IsSomeAnd, IsNone};
 ghost use Rattle.crb_regs.specs.LittleEndian.{number_at};
 ghost use Rattle.vt_base.specs.Buffer.{zeros, followed_by_zeros};
-ghost use Rattle.crb_regs.specs.Registers.{is_lost};
-ghost use Rattle.crb_machine.specs.Steps.{reset_regs, fresh_state, collected, written, device_byte, after_reset, reset_reply, failed, answered, TakesJob};
-ghost use Rattle.crb_machine.specs.Values.{AreFit, values_at, device_of, held_values};
+ghost use Rattle.crb_regs.specs.Registers.{is_lost, reset_regs};
+ghost use Rattle.crb_machine.specs.Steps.{fresh_state, collected, written, device_byte, after_reset, reset_reply, failed, answered, TakesJob};
+ghost use Rattle.crb_machine.specs.Values.{AreFit, values_at, device_of, held_values, with_values};
 ghost use Rattle.crb_machine.specs.Over.{IsSound, HasInHand, Settles, Writes, Resets, Stops, GoesOn, own_byte, state_of};
 ghost use Rattle.crb_port.specs.Calls.{KeepsWorker, Claims, Posts};
 
@@ -12,6 +12,8 @@ use crate::parts::DeviceParts;
 use crb_port::{Answer, Job, Meanings, Port, WorkPort};
 use crb_regs::{Access, Phase, Regs};
 use std::alloc::{AllocError, Global};
+use std::error::Error;
+use std::fmt;
 use std::marker::Model;
 use vt_base::Buf;
 
@@ -21,21 +23,30 @@ pub struct NotYet {
     pub number: u64,
 }
 
+impl fmt::Display for NotYet {
+    fn fmt<W: fmt::Write>(&self, f: &mut fmt::Formatter<W>) -> fmt::Result {
+        write!(f, "the job {} is claimed", self.number)
+    }
+}
+
+impl Error for NotYet {}
+
 /// The device over its end of a port.
-#[derive(Drop)]
+#[derive(Debug, Drop)]
 pub struct Device<P: Port> {
     parts: DeviceParts<P>,
 }
 
 impl<P: Port> Model for Device<P> {
+    ghost use Rattle.crb_machine.specs.Model.{DeviceModel};
+    ghost use Rattle.crb_machine.specs.Parts.{model_of};
     ghost use Rattle.crb_machine.specs.Over.{IsSound};
-    ghost use Rattle.crb_machine.specs.declared.parts.DeviceParts.{DeviceParts};
 
-    ghost Value = { DeviceParts P };
+    ghost Value = { DeviceModel P };
 
-    ghost view = { λ d. d.parts };
+    ghost view = { λ d. model_of d.parts };
 
-    ghost invariant = { λ d. IsSound P.known d.parts };
+    ghost invariant = { λ d. IsSound P.known (model_of d.parts) };
 }
 
 impl<P: Port + Drop> Device<P> {
@@ -200,7 +211,11 @@ impl<P: Port> Device<P> {
 
     /// Whether the guest is stopped.
     pub fn is_held(&self) -> bool
-        ensures { result ≡ self.now.held }
+        ensures value { result ≡ self.now.held }
+
+        // What the type makes sure of.
+        ensures sound { IsSound P.known self.now }
+        ensures hand { HasInHand P.known self.now }
     {
         self.parts.held
     }
@@ -267,6 +282,14 @@ impl<P: Port> Device<P> {
           content = followed_by_zeros content.now;
           number = number;
         } }
+        ensures restored { self.new ≡ with_values (record {
+          granted = granted;
+          cancel = cancel;
+          phase = phase;
+          cancelled = cancelled;
+          content = followed_by_zeros content.now;
+          number = number;
+        }) self.old }
         ensures port { self.new.port ≡ self.old.port }
         ensures sound { IsSound P.known self.new }
         ensures hand { HasInHand P.known self.new }
@@ -300,11 +323,10 @@ impl<P: Port> Meanings for Device<P> {
 }
 
 impl<P: Port + WorkPort> WorkPort for Device<P> {
-    /// Claims the job that waits at the device's port.
+    /// Claims the job that waits at the device's port. A held device has none there.
     fn claim(&mut self) -> Option<Job>
-        requires empty_hand { (P.known self.old.port).in_hand ≡ None }
-
         ensures claims { Claims (P.known self.old.port) result (P.known self.new.port) }
+        ensures held { self.old.held ≡ true → result ≡ None }
         ensures own { self.new ≡ record self.old { port = self.new.port } }
         ensures sound { IsSound P.known self.new }
         ensures hand { HasInHand P.known self.new }

@@ -4,6 +4,7 @@ ghost use Rattle.vt_base.specs.Numbers.{IsBytes};
 ghost use Rattle.crb_regs.specs.Registers.{is_lost};
 ghost use Rattle.crb_port.specs.Calls.{KeepsWorker};
 ghost use Rattle.crb_machine.specs.Values.{AreFit, held_values};
+ghost use Rattle.crb_machine.specs.Parts.{model_of};
 ghost use Rattle.crb_machine.specs.Over.{IsSound, Stops, GoesOn, Resets};
 
 use crate::device::NotYet;
@@ -21,10 +22,10 @@ impl<P: Port> DeviceParts<P> {
     /// left alone.
     pub fn stop(&mut self) -> Result<(), NotYet>
         requires runs { self.old.held ≡ false }
-        requires sound { IsSound P.known self.old }
-        ensures stops { Stops P.known self.old result self.new }
+        requires sound { IsSound P.known (model_of self.old) }
+        ensures stops { Stops P.known (model_of self.old) result (model_of self.new) }
         ensures worker { KeepsWorker (P.known self.old.port) (P.known self.new.port) }
-        ensures sound { IsSound P.known self.new }
+        ensures sound { IsSound P.known (model_of self.new) }
         ensures rest { P.rest self.new.port ≡ P.rest self.old.port }
     {
         if self.home.is_none() {
@@ -49,11 +50,11 @@ impl<P: Port> DeviceParts<P> {
     /// A reset of the guest: a stop, and then the reset values. The device isn't held any more.
     pub fn reset(&mut self) -> Result<(), NotYet>
         requires runs { self.old.held ≡ false }
-        requires sound { IsSound P.known self.old }
+        requires sound { IsSound P.known (model_of self.old) }
         ensures runs { self.new.held ≡ false }
-        ensures resets { Resets P.known self.old result self.new }
+        ensures resets { Resets P.known (model_of self.old) result (model_of self.new) }
         ensures worker { KeepsWorker (P.known self.old.port) (P.known self.new.port) }
-        ensures sound { IsSound P.known self.new }
+        ensures sound { IsSound P.known (model_of self.new) }
         ensures rest { P.rest self.new.port ≡ P.rest self.old.port }
     {
         self.stop()?;
@@ -72,10 +73,10 @@ impl<P: Port> DeviceParts<P> {
     /// Lets the held device go on: where a command is executed its job waits again.
     pub fn go_on(&mut self)
         requires held { self.old.held ≡ true }
-        requires sound { IsSound P.known self.old }
-        ensures goes_on { GoesOn P.known self.old self.new }
+        requires sound { IsSound P.known (model_of self.old) }
+        ensures goes_on { GoesOn P.known (model_of self.old) (model_of self.new) }
         ensures worker { KeepsWorker (P.known self.old.port) (P.known self.new.port) }
-        ensures sound { IsSound P.known self.new }
+        ensures sound { IsSound P.known (model_of self.new) }
         ensures rest { P.rest self.new.port ≡ P.rest self.old.port }
     {
         let cancelled = self.cancelled;
@@ -95,10 +96,10 @@ impl<P: Port> DeviceParts<P> {
     /// All bytes of the held device's buffer.
     pub fn content(&self) -> &[u8]
         requires held { self.now.held ≡ true }
-        requires sound { IsSound P.known self.now }
-        ensures value { result.now ≡ (held_values self.now).content }
+        requires sound { IsSound P.known (model_of self.now) }
+        ensures value { result.now ≡ (held_values (model_of self.now)).content }
         ensures size { length result.now ≡ 3968 }
-        ensures fit { is_lost self.now.regs.phase ≡ false → AreFit (held_values self.now) }
+        ensures fit { is_lost self.now.regs.phase ≡ false → AreFit (held_values (model_of self.now)) }
     {
         // Read for the range of its type.
         let _number = self.number;

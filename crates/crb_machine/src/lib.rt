@@ -17,4 +17,4 @@ mod parts;
 mod phases;
 
 pub use device::{Device, NotYet};
-pub use laws::held_devices_go_on;
+pub use laws::{held_devices_go_on, stopped_devices_go_on};

@@ -5,6 +5,7 @@ ghost use Rattle.crb_regs.specs.Effects.{effect as effect_of};
 ghost use Rattle.crb_port.specs.Calls.{KeepsWorker};
 ghost use Rattle.crb_machine.specs.Phases.{next_phase as phase_next};
 ghost use Rattle.crb_machine.specs.Steps.{ended_phase, written, written_to};
+ghost use Rattle.crb_machine.specs.Parts.{model_of};
 ghost use Rattle.crb_machine.specs.Over.{IsSound, Settles, Acts, WritesTo, own_byte, state_of, with_answer};
 
 use crate::bytes::overwrite;
@@ -15,7 +16,7 @@ use vt_base::Buf;
 
 /// What a device over a port is made of: the registers, the number of the last job, the buffer where it is home, whether
 /// the device is held, whether the job of a held device is cancelled that waits until it goes on, and the port.
-#[derive(Drop)]
+#[derive(Debug, Drop)]
 pub struct DeviceParts<P> {
     pub regs: Regs,
     pub number: u64,
@@ -38,7 +39,7 @@ fn phase_at_end(outcome: Outcome) -> Phase
 impl<P: Port> DeviceParts<P> {
     /// Takes an answer home, which ends the execution.
     pub fn take_home(&mut self, answer: Answer)
-        ensures { self.new ≡ with_answer answer self.old self.old.port }
+        ensures { model_of self.new ≡ with_answer answer (model_of self.old) self.old.port }
     {
         self.regs.phase = phase_at_end(answer.outcome);
         self.home = Some(answer.buf);
@@ -47,11 +48,11 @@ impl<P: Port> DeviceParts<P> {
     /// Takes home an answer that stands. While the buffer is home none can, and the port is left alone.
     pub fn settle(&mut self)
         requires runs { self.old.held ≡ false }
-        requires sound { IsSound P.known self.old }
+        requires sound { IsSound P.known (model_of self.old) }
         ensures runs { self.new.held ≡ false }
-        ensures settles { Settles P.known self.old self.new }
+        ensures settles { Settles P.known (model_of self.old) (model_of self.new) }
         ensures worker { KeepsWorker (P.known self.old.port) (P.known self.new.port) }
-        ensures sound { IsSound P.known self.new }
+        ensures sound { IsSound P.known (model_of self.new) }
         ensures rest { P.rest self.new.port ≡ P.rest self.old.port }
     {
         if self.home.is_some() {
@@ -65,8 +66,8 @@ impl<P: Port> DeviceParts<P> {
     // The byte of the page at an offset.
     fn byte(&self, offset: u32) -> u8
         requires offset { offset < 0x1000 }
-        requires sound { IsSound P.known self.now }
-        ensures { result ≡ own_byte self.now offset }
+        requires sound { IsSound P.known (model_of self.now) }
+        ensures { result ≡ own_byte (model_of self.now) offset }
     {
         if offset < DATA_BUFFER {
             return self.regs.byte(offset);
@@ -84,8 +85,8 @@ impl<P: Port> DeviceParts<P> {
     pub fn number_at(&self, offset: u32, size: u8) -> u64
         requires size { size ≤ 8 }
         requires place { offset + size ≤ 0x1000 }
-        requires sound { IsSound P.known self.now }
-        ensures value { result ≡ number_at (own_byte self.now) offset size }
+        requires sound { IsSound P.known (model_of self.now) }
+        ensures value { result ≡ number_at (own_byte (model_of self.now)) offset size }
         ensures below { result < 256 ^ size }
     {
         if size == 0 {
@@ -101,12 +102,12 @@ impl<P: Port> DeviceParts<P> {
         requires write { IsSome a.now.write }
         requires in_buffer { effect ≡ Effect.Buffer → 0x80 ≤ a.now.offset }
         requires accepted { phase_next effect self.old.regs.granted self.old.regs.phase ≡ Some phase }
-        requires sound { IsSound P.known self.old }
+        requires sound { IsSound P.known (model_of self.old) }
         ensures runs { self.new.held ≡ false }
-        ensures acts { Acts P.known (Some phase) effect a.now self.old self.new }
-        ensures told { IfSome (state_of P.known self.old) (λ d. state_of P.known self.new ≡ Some (written_to (Some phase) effect a.now d)) }
+        ensures acts { Acts P.known (Some phase) effect a.now (model_of self.old) (model_of self.new) }
+        ensures told { IfSome (state_of P.known (model_of self.old)) (λ d. state_of P.known (model_of self.new) ≡ Some (written_to (Some phase) effect a.now d)) }
         ensures worker { KeepsWorker (P.known self.old.port) (P.known self.new.port) }
-        ensures sound { IsSound P.known self.new }
+        ensures sound { IsSound P.known (model_of self.new) }
         ensures rest { P.rest self.new.port ≡ P.rest self.old.port }
     {
         self.regs.phase = phase;
@@ -148,12 +149,12 @@ impl<P: Port> DeviceParts<P> {
     pub fn write(&mut self, a: &Access)
         requires runs { self.old.held ≡ false }
         requires write { IsSome a.now.write }
-        requires sound { IsSound P.known self.old }
+        requires sound { IsSound P.known (model_of self.old) }
         ensures runs { self.new.held ≡ false }
-        ensures writes { WritesTo P.known self.old a.now self.new }
-        ensures told { IfSome (state_of P.known self.old) (λ d. state_of P.known self.new ≡ Some (written d a.now)) }
+        ensures writes { WritesTo P.known (model_of self.old) a.now (model_of self.new) }
+        ensures told { IfSome (state_of P.known (model_of self.old)) (λ d. state_of P.known (model_of self.new) ≡ Some (written d a.now)) }
         ensures worker { KeepsWorker (P.known self.old.port) (P.known self.new.port) }
-        ensures sound { IsSound P.known self.new }
+        ensures sound { IsSound P.known (model_of self.new) }
         ensures rest { P.rest self.new.port ≡ P.rest self.old.port }
     {
         let effect = decode(a);

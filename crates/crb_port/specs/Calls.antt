@@ -132,9 +132,12 @@ pub record ClaimsNone (k l : Known) : Type 0 where
   pub steps : (found : Stage) × (more : List Stage) × Found k l found more × (length more ≤ 1)
       × ((is_waiting found ≡ false) ⊎ ((second : Stage) × (more ≡ second ∷ []) × (second ≢ found) × (k.state ≡ None)))
 
--- this job waited, and was claimed
+-- This job waited, and was claimed: the port wasn't free, and no other job was claimed. A worker's end, which never says that
+-- it is free, gives `was_free` as it is; where one value is both ends, none is claimed while the port is free.
 pub record ClaimsJob (k : Known) (job : Job) (l : Known) : Type 0 where
   pub guest : KeepsGuest k l
+  pub was_free : k.is_free ≡ false
+  pub none_claimed : k.in_hand ≡ None
   pub in_hand : l.in_hand ≡ Some job.number
   pub stood : IfSome k.state (λ s. s ≡ Waiting job)
   pub state : l.state ≡ told k.state (Claimed job.number)

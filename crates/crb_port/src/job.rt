@@ -13,7 +13,7 @@ pub enum Outcome {
 }
 
 /// A command that was started: its number, whether it was cancelled while it waited, and the buffer that holds it.
-#[derive(Drop)]
+#[derive(Debug, Drop)]
 pub struct Job {
     pub number: u64,
     pub cancelled: bool,
@@ -21,7 +21,7 @@ pub struct Job {
 }
 
 /// The end of the job of that number, with the buffer that left with the job.
-#[derive(Drop)]
+#[derive(Debug, Drop)]
 pub struct Answer {
     pub number: u64,
     pub outcome: Outcome,
@@ -29,7 +29,7 @@ pub struct Answer {
 }
 
 /// What a pull brings home.
-#[derive(Drop)]
+#[derive(Debug, Drop)]
 pub enum Pull {
     /// Nothing: the port was free.
     Free,
@@ -42,7 +42,7 @@ pub enum Pull {
 }
 
 /// What stands in a port.
-#[derive(Drop)]
+#[derive(Debug, Drop)]
 pub enum Standing {
     /// Nothing: the port is free.
     Nothing,

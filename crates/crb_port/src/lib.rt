@@ -6,9 +6,11 @@
 #![tactic(auto)]
 
 mod job;
+mod laws;
 mod plain;
 mod port;
 
 pub use job::{Answer, Job, Outcome, Pull, Stage, Standing};
+pub use laws::claims_need_a_waiting_job;
 pub use plain::PlainPort;
 pub use port::{Meanings, Port, WorkPort};

@@ -7,7 +7,7 @@ use std::marker::Model;
 use std::mem;
 
 /// Both ends of a port in one value, for one thread. To a contract it is what stands in it, so each answer is exact.
-#[derive(Drop)]
+#[derive(Debug, Drop)]
 pub struct PlainPort {
     standing: Standing,
 }

@@ -1,5 +1,5 @@
 //! The two ends of a port.
-ghost use Rattle.std.specs.Prelude.{◌≡◌, true, Some, None};
+ghost use Rattle.std.specs.Prelude.{◌≡◌, true, Some};
 ghost use Rattle.crb_port.specs.Calls.{Queues, Cancels, Collects, Pulls, Claims, Posts};
 
 use crate::job::{Answer, Job, Pull};
@@ -52,9 +52,9 @@ pub trait Port: Meanings {
 /// The worker's end.
 pub trait WorkPort: Meanings {
     /// Claims the job that waits. `None` comes only where, at the first step of this call, no unclaimed job stood, or the
-    /// guest cancelled or pulled it between two steps.
+    /// guest cancelled or pulled it between two steps: so over a free port, and while the job is claimed, whose number
+    /// stays the claimed one.
     fn claim(&mut self) -> Option<Job>
-        requires empty_hand { (Self.known self.old).in_hand ≡ None }
         ensures claims { Claims (Self.known self.old) result (Self.known self.new) }
         ensures rest { Self.rest self.new ≡ Self.rest self.old };
 

@@ -1,4 +1,5 @@
 pub mod LittleEndian
+pub mod Numbers
 pub mod Access
 pub mod Effects
 pub mod Registers

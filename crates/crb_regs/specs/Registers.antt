@@ -1,6 +1,7 @@
 -- The register page below the data buffer (PC Client Platform TPM Profile, the CRB at locality 0).
 use Rattle.std.specs.Prelude.{ℕ, ◌*◌, ◌/◌, ◌%◌, Bool, true, false, if◌then◌else◌, ◌==◌}
 use Rattle.crb_regs.specs.LittleEndian.{byte_of}
+use Rattle.crb_regs.specs.Numbers as number
 use Rattle.crb_regs.specs.declared.registers.Regs.{Regs}
 use Rattle.crb_regs.specs.declared.phase.Phase.{Phase}
 use Rattle.crb_regs.specs.declared.phase.Phase.TheVariants.{Idle, Execution, Lost}
@@ -20,21 +21,24 @@ abbrev pub is_lost : Phase → Bool
 is_lost Lost = true
 is_lost _ = false
 
--- The value of the register of four bytes that begins at this offset; 0 where none begins. From the top: LOC_STATE,
--- LOC_STS, INTF_ID in two halves, CTRL_STS, CTRL_CANCEL, CTRL_START, CMD_SIZE, CMD_LADDR, RSP_SIZE and RSP_ADDR.
+-- The registers after a reset: no access, CANCEL clear, idle.
+abbrev pub reset_regs : Regs
+reset_regs = record { granted = false; cancel = false; phase = Idle }
+
+-- The value of the register of four bytes that begins at this offset; 0 where none begins.
 abbrev pub register : Regs → ℕ → ℕ
 register regs at =
-    if at == 0x00 then (if regs.granted then 0x83 else 0x81)
-    else (if at == 0x0C then (if regs.granted then 1 else 0)
-    else (if at == 0x30 then 0x00025811
-    else (if at == 0x34 then 0x00001014
-    else (if at == 0x44 then (if is_lost regs.phase then 1 else (if is_idle regs.phase then 2 else 0))
-    else (if at == 0x48 then (if regs.cancel then 1 else 0)
-    else (if at == 0x4C then (if is_executing regs.phase then 1 else 0)
-    else (if at == 0x58 then 0xF80
-    else (if at == 0x5C then 0xFED40080
-    else (if at == 0x64 then 0xF80
-    else (if at == 0x68 then 0xFED40080
+    if at == number.loc_state then (if regs.granted then 0x83 else 0x81)
+    else (if at == number.loc_sts then (if regs.granted then number.granted else 0)
+    else (if at == number.intf_id_low then 0x00025811
+    else (if at == number.intf_id_high then 0x00001014
+    else (if at == number.ctrl_sts then (if is_lost regs.phase then number.tpm_sts else (if is_idle regs.phase then number.tpm_idle else 0))
+    else (if at == number.ctrl_cancel then (if regs.cancel then number.cancel else 0)
+    else (if at == number.ctrl_start then (if is_executing regs.phase then number.start else 0)
+    else (if at == number.cmd_size then 0xF80
+    else (if at == number.cmd_laddr then 0xFED40080
+    else (if at == number.rsp_size then 0xF80
+    else (if at == number.rsp_addr_low then 0xFED40080
     else 0))))))))))
 
 -- the byte of the page at an offset below the buffer

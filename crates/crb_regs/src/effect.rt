@@ -3,7 +3,10 @@ ghost use Rattle.std.specs.Prelude.{◌≡◌, IsSome, unwrap_or};
 ghost use Rattle.crb_regs.specs.Effects.{effect};
 
 use crate::access::Access;
-use crate::registers::{CTRL_CANCEL, CTRL_REQ, CTRL_START, DATA_BUFFER, LOC_CTRL};
+use crate::registers::{
+    CANCEL, CMD_READY, CTRL_CANCEL, CTRL_REQ, CTRL_START, DATA_BUFFER, GO_IDLE, LOC_CTRL,
+    NO_CANCEL, RELINQUISH, REQUEST_ACCESS, START,
+};
 
 /// What a write asks for. Whether it is done depends on the phase.
 #[derive(Clone, Copy, Debug, PartialEq, Eq)]
@@ -41,14 +44,15 @@ pub fn decode(a: &Access) -> Effect
     if a.size() > REGISTER_SIZE {
         return Effect::Nothing;
     }
-    match (a.offset(), a.write().unwrap_or(0)) {
-        (LOC_CTRL, 1) => Effect::Request,
-        (LOC_CTRL, 2) => Effect::Relinquish,
-        (CTRL_REQ, 1) => Effect::CmdReady,
-        (CTRL_REQ, 2) => Effect::GoIdle,
-        (CTRL_CANCEL, 0) => Effect::Cancel(false),
-        (CTRL_CANCEL, 1) => Effect::Cancel(true),
-        (CTRL_START, 1) => Effect::Start,
+    let value = a.write().unwrap_or(0) as u32;
+    match (a.offset(), value) {
+        (LOC_CTRL, REQUEST_ACCESS) => Effect::Request,
+        (LOC_CTRL, RELINQUISH) => Effect::Relinquish,
+        (CTRL_REQ, CMD_READY) => Effect::CmdReady,
+        (CTRL_REQ, GO_IDLE) => Effect::GoIdle,
+        (CTRL_CANCEL, NO_CANCEL) => Effect::Cancel(false),
+        (CTRL_CANCEL, CANCEL) => Effect::Cancel(true),
+        (CTRL_START, START) => Effect::Start,
         _ => Effect::Nothing,
     }
 }

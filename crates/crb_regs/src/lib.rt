@@ -15,6 +15,7 @@ pub use access::{Access, PAGE_SIZE};
 pub use effect::{Effect, decode};
 pub use phase::Phase;
 pub use registers::{
-    CTRL_CANCEL, CTRL_REQ, CTRL_START, CTRL_STS, DATA_BUFFER, LOC_CTRL, LOC_STATE, LOC_STS, Regs,
-    byte_at,
+    CANCEL, CMD_READY, CTRL_CANCEL, CTRL_REQ, CTRL_START, CTRL_STS, DATA_BUFFER, GO_IDLE, GRANTED,
+    LOC_CTRL, LOC_STATE, LOC_STS, NO_CANCEL, RELINQUISH, REQUEST_ACCESS, Regs, START, TPM_IDLE,
+    TPM_STS, byte_at,
 };

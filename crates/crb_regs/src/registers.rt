@@ -1,6 +1,6 @@
 //! The registers and what they read.
 ghost use Rattle.std.specs.Prelude.{◌≡◌, ◌/◌, ◌%◌, ◌^◌, ◌<◌, ◌≤◌, false};
-ghost use Rattle.crb_regs.specs.Registers.{register, register_byte};
+ghost use Rattle.crb_regs.specs.Registers.{register, register_byte, reset_regs};
 ghost use Rattle.crb_regs.specs.LittleEndian.{byte_of};
 
 use crate::phase::Phase;
@@ -54,13 +54,34 @@ const REGISTERS_VALID: u32 = 0x81;
 const LOCALITY_ASSIGNED: u32 = 0x02;
 
 /// LOC_STS: this locality has access.
-const GRANTED: u32 = 0x01;
+pub const GRANTED: u32 = 0x01;
 
 /// CTRL_STS: the TPM can't be used.
-const TPM_STS: u32 = 0x01;
+pub const TPM_STS: u32 = 0x01;
 
 /// CTRL_STS: the interface is idle.
-const TPM_IDLE: u32 = 0x02;
+pub const TPM_IDLE: u32 = 0x02;
+
+/// LOC_CTRL: asks for access.
+pub const REQUEST_ACCESS: u32 = 0x01;
+
+/// LOC_CTRL: gives access back.
+pub const RELINQUISH: u32 = 0x02;
+
+/// CTRL_REQ: makes the interface ready for a command.
+pub const CMD_READY: u32 = 0x01;
+
+/// CTRL_REQ: makes the interface idle.
+pub const GO_IDLE: u32 = 0x02;
+
+/// CTRL_CANCEL: the command is to be cancelled.
+pub const CANCEL: u32 = 0x01;
+
+/// CTRL_CANCEL: the command is not to be cancelled.
+pub const NO_CANCEL: u32 = 0x00;
+
+/// CTRL_START: starts the command; reads 0 once it has ended.
+pub const START: u32 = 0x01;
 
 /// INTF_ID, low half: a CRB interface of version 1, locality 0 alone. Our own choice, after QEMU.
 const INTERFACE: u32 = 0x0002_5811;
@@ -85,7 +106,7 @@ pub struct Regs {
 impl Regs {
     /// The registers after a reset: no access, CANCEL clear, idle.
     pub fn reset() -> Regs
-        ensures { result ≡ record { granted = false; cancel = false; phase = Phase.Idle } }
+        ensures { result ≡ reset_regs }
     {
         Regs {
             granted: false,
@@ -118,7 +139,7 @@ impl Regs {
         ensures { result ≡ register self.now CTRL_START }
     {
         match self.phase {
-            Phase::Execution => 1,
+            Phase::Execution => START,
             _ => 0,
         }
     }
@@ -133,7 +154,7 @@ impl Regs {
             INTF_ID_LOW => INTERFACE,
             INTF_ID_HIGH => VENDOR,
             CTRL_STS => self.status(),
-            CTRL_CANCEL => u32::from(self.cancel),
+            CTRL_CANCEL => { if self.cancel { CANCEL } else { NO_CANCEL } }
             CTRL_START => self.start(),
             CMD_SIZE | RSP_SIZE => BUFFER_SIZE,
             CMD_LADDR | RSP_ADDR_LOW => BUFFER_ADDRESS,

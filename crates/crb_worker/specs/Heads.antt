@@ -3,18 +3,18 @@
 use Rattle.std.specs.Prelude.{Bool, ◌&&◌, nat_le, ℕ, List}
 use Rattle.std.specs.Str.{bytes_eq}
 use Rattle.std.specs.Int.{w16}
-use Rattle.tpm_frame.specs.declared.TheConstants.{CANCELED, HEADER_SIZE, LARGEST_FRAME}
 use Rattle.tpm_frame.specs.Frame.{number_at, short, is_response_tag}
 use Rattle.tpm_frame.specs.Sizes.{named_size}
+use Rattle.crb_worker.specs.Numbers.{header_size, largest_response, canceled}
 
 -- a response can have so many bytes
 abbrev pub is_response_size : ℕ → Bool
-is_response_size size = nat_le HEADER_SIZE size && nat_le size LARGEST_FRAME
+is_response_size size = nat_le header_size size && nat_le size largest_response
 
--- these ten bytes are the header of a response
+-- these bytes are the header of a response
 abbrev pub is_head : List ℕ → Bool
 is_head head = is_response_tag (number_at w16 0 head) && is_response_size (named_size head)
 
 -- the response is that to a command that was cancelled
 abbrev pub is_cancelled : List ℕ → Bool
-is_cancelled response = bytes_eq response (short CANCELED)
+is_cancelled response = bytes_eq response (short canceled)

@@ -1,3 +1,4 @@
+pub mod Numbers
 pub mod Heads
 pub mod Progress
 pub mod Seen

@@ -2,7 +2,6 @@
 -- seen of the wires before it, `l` and `v` after it. (Own definitions.)
 use Rattle.std.specs.Prelude.{◌≡◌, ◌-◌, ℕ, Bool, true, false, nat_lt, List, [], ◌++◌, Some, None, ◌⊎◌}
 use Rattle.vt_base.specs.Buffer.{followed_by_zeros}
-use Rattle.tpm_frame.specs.declared.TheConstants.{CANCELED, HEADER_SIZE}
 use Rattle.tpm_frame.specs.Frame.{short}
 use Rattle.tpm_frame.specs.Frames.{first_frame}
 use Rattle.tpm_frame.specs.Sizes.{named_size}
@@ -16,6 +15,7 @@ use Rattle.crb_worker.specs.declared.progress.Progress.{Progress}
 use Rattle.crb_worker.specs.declared.progress.Progress.TheVariants as progress
 use Rattle.crb_worker.specs.declared.progress.Step.{Step}
 use Rattle.crb_worker.specs.declared.progress.Step.TheVariants.{Idle, Claim, Sent, Exec, Done, Cancelled, Lost}
+use Rattle.crb_worker.specs.Numbers.{header_size, canceled}
 use Rattle.crb_worker.specs.Heads.{is_head, is_cancelled}
 use Rattle.crb_worker.specs.Seen.{Seen, Sends, Receives, AreNext}
 
@@ -43,7 +43,7 @@ WithoutJob k _ next l = ⊥
 abbrev pub WithClaimed : {Plan : Type 0} → Job → Known → Seen Plan → Step → Progress → Known → Seen Plan → Type 0
 WithClaimed job k w (Cancelled number) next l v =
     (job.cancelled ≡ true) × (number ≡ job.number) × (next ≡ progress.Free)
-    × Posts k (answered job outcome.Cancelled (short CANCELED)) l × (v ≡ w)
+    × Posts k (answered job outcome.Cancelled (short canceled)) l × (v ≡ w)
 WithClaimed job k w (Sent number) next l v =
     (job.cancelled ≡ false) × (number ≡ job.number) × (next ≡ progress.Sent job)
     × (l ≡ k) × Sends true (first_frame job.buf) w v
@@ -53,16 +53,16 @@ WithClaimed job k w _ next l v = ⊥
 
 -- ten bytes were received that are no header of a response
 abbrev pub ReceivesNoHead : {Plan : Type 0} → Seen Plan → Seen Plan → Type 0
-ReceivesNoHead w v = (head : List ℕ) × (is_head head ≡ false) × AreNext head HEADER_SIZE w v × Receives true HEADER_SIZE w v
+ReceivesNoHead w v = (head : List ℕ) × (is_head head ≡ false) × AreNext head header_size w v × Receives true header_size w v
 
 -- Of a command that was sent the header of the response is received. The job is lost where that fails, and where the
 -- bytes are no such header.
 abbrev pub WithSent : {Plan : Type 0} → Job → Known → Seen Plan → Step → Progress → Known → Seen Plan → Type 0
 WithSent job k w (Exec number) next l v = (head : List ℕ)
     × (number ≡ job.number) × (next ≡ progress.Run job head) × (is_head head ≡ true) × (l ≡ k)
-    × AreNext head HEADER_SIZE w v × Receives true HEADER_SIZE w v
+    × AreNext head header_size w v × Receives true header_size w v
 WithSent job k w (Lost number) next l v =
-    GivesUp k job number next l × (Receives false HEADER_SIZE w v ⊎ ReceivesNoHead w v)
+    GivesUp k job number next l × (Receives false header_size w v ⊎ ReceivesNoHead w v)
 WithSent job k w _ next l v = ⊥
 
 -- as many bytes as are left of a response are received, by whether any are
@@ -71,10 +71,10 @@ ReceivesRest false count rest w v = (rest ≡ []) × (v ≡ w)
 ReceivesRest true count rest w v = AreNext rest count w v × Receives true count w v
 
 abbrev pub is_longer : List ℕ → Bool
-is_longer head = nat_lt HEADER_SIZE (named_size head)
+is_longer head = nat_lt header_size (named_size head)
 
 abbrev pub left_of : List ℕ → ℕ
-left_of head = named_size head - HEADER_SIZE
+left_of head = named_size head - header_size
 
 -- the rest was received; the response that it makes up ends the job so
 abbrev pub TakesResponse : {Plan : Type 0} → List ℕ → Bool → List ℕ → Seen Plan → Seen Plan → Type 0

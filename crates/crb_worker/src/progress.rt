@@ -3,7 +3,7 @@ use crb_port::Job;
 use tpm_frame::HEADER_SIZE;
 
 /// How far a worker is with its job.
-#[derive(Drop)]
+#[derive(Debug, Drop)]
 pub enum Progress {
     /// It has none.
     Free,

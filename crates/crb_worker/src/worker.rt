@@ -3,7 +3,7 @@ ghost use Rattle.std.specs.Prelude.{◌≡◌, Some, None, true, false};
 ghost use Rattle.tpm_frame.specs.Frame.{short};
 ghost use Rattle.crb_port.specs.Calls.{Posts};
 ghost use Rattle.crb_worker.specs.Heads.{is_head as IsHead};
-ghost use Rattle.crb_worker.specs.Progress.{number_in_hand, holds_head, calls_wires};
+ghost use Rattle.crb_worker.specs.Progress.{HasClaimed, number_in_hand, holds_head, calls_wires};
 ghost use Rattle.crb_worker.specs.Seen.{wires_seen};
 ghost use Rattle.crb_worker.specs.Works.{Works, WithoutJob, WithClaimed, WithSent, WithRun, answered, is_longer, lost};
 
@@ -17,7 +17,7 @@ use tpm_frame::{CANCELED, HEADER_SIZE, first_frame, write_short};
 use vt_base::Chan;
 
 /// A worker; seen as how far it is with its job.
-#[derive(Drop)]
+#[derive(Debug, Drop)]
 pub struct Worker {
     progress: Progress,
 }
@@ -45,9 +45,9 @@ impl Worker {
     }
 
     /// Takes the job in hand one step further, or claims one. A job in hand needs the end of the port that claimed it and
-    /// hasn't posted its answer. No memory is taken: the job's buffer goes back with the answer.
+    /// hasn't posted its answer; without one any port serves, and where another's job is claimed none is. No memory is taken: the job's buffer goes back with the answer.
     pub fn step<P: WorkPort, W: Wires>(&mut self, port: &mut P, wires: &mut W) -> Step
-        requires in_hand { (P.known port.old).in_hand ≡ number_in_hand self.old }
+        requires in_hand { HasClaimed self.old (P.known port.old) }
         ensures works { let before = wires_seen W.fails W.later (W.link wires.old) (W.plan wires.old) (W.faults wires.old) (W.traffic wires.old) in
             let after = wires_seen W.fails W.later (W.link wires.new) (W.plan wires.new) (W.faults wires.new) (W.traffic wires.new) in
             Works self.old (P.known port.old) before result self.new (P.known port.new) after }
@@ -56,7 +56,8 @@ impl Worker {
         ensures untouched { calls_wires self.old ≡ false → wires.new ≡ wires.old }
 
         // What the next step needs.
-        ensures hand { (P.known port.new).in_hand ≡ number_in_hand self.new }
+        ensures next { HasClaimed self.new (P.known port.new) }
+        ensures hand { (P.known port.old).in_hand ≡ number_in_hand self.old → (P.known port.new).in_hand ≡ number_in_hand self.new }
         ensures head { holds_head self.new ≡ true }
         ensures rest { P.rest port.new ≡ P.rest port.old }
     {
@@ -71,9 +72,9 @@ impl Worker {
     // Claims a job, if one waits.
     fn claim<P: WorkPort>(&mut self, port: &mut P) -> Step
         requires free { self.old ≡ Progress.Free }
-        requires in_hand { (P.known port.old).in_hand ≡ None }
         ensures works { WithoutJob (P.known port.old) result self.new (P.known port.new) }
-        ensures hand { (P.known port.new).in_hand ≡ number_in_hand self.new }
+        ensures next { HasClaimed self.new (P.known port.new) }
+        ensures hand { (P.known port.old).in_hand ≡ None → (P.known port.new).in_hand ≡ number_in_hand self.new }
         ensures head { holds_head self.new ≡ true }
         ensures rest { P.rest port.new ≡ P.rest port.old }
     {

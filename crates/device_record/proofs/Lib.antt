@@ -7,3 +7,4 @@ pub mod Told
 pub mod Trims
 pub mod Values
 pub mod Marked
+pub mod Lengths

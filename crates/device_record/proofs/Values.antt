@@ -10,7 +10,8 @@ use Rattle.vt_base.proofs.Layouts.{one_spelling}
 use Rattle.crb_regs.specs.Registers.{is_idle, is_executing, is_lost}
 use Rattle.crb_regs.specs.declared.phase.Phase.{Phase}
 use Rattle.crb_regs.specs.declared.phase.Phase.TheVariants.{Idle, Ready, Reception, Execution, Completion, Lost}
-use Rattle.crb_machine.specs.Values.{DeviceValues, AreFit}
+use Rattle.crb_machine.specs.Model.{DeviceModel}
+use Rattle.crb_machine.specs.Values.{with_values, DeviceValues, AreFit}
 use Rattle.device_record.specs.declared.fields.Fields.{Fields}
 use Rattle.device_record.specs.Records.{trimmed, fields_of, values_of, header_text, record_text, IsRecord}
 use Rattle.device_record.specs.Layouts.{record_layout}
@@ -161,3 +162,19 @@ pub values_restored : (f : Fields) (bytes : List ℕ) (v : DeviceValues) → Res
 values_restored f bytes v restores same =
     let all : v ≡ values_of f (drop 23 bytes) = same ∙ ap (λ (content : List ℕ). values_of f content) (take_rest bytes 23) in
     subst (λ (x : DeviceValues). IsRecord bytes x) (sym all) restores.is_record
+
+-- whichever values the bytes are the record of, the device gets those
+pub restored_as : {P : Type 0} (f : Fields) (bytes : List ℕ) (v : DeviceValues) (d e : DeviceModel P) → Restores f bytes → IsRecord bytes v
+    → e ≡ with_values (values_of f (take (length bytes - 23) (drop 23 bytes))) d → e ≡ with_values v d
+restored_as f bytes v d e restores is_record is =
+    let made : DeviceValues = values_of f (take (length bytes - 23) (drop 23 bytes)) in
+    let one : IsRecord bytes made = values_restored f bytes made restores refl in
+    is ∙ ap (λ (w : DeviceValues). with_values w d) (values_once made v one.fit is_record.fit (sym one.spelled ∙ is_record.spelled))
+
+-- the length of the record, as many bytes of content as are left without the zeros at the end
+pub length-record_text : (v : DeviceValues) (count : ℕ) (content : List ℕ) → content ≡ v.content → take count content ≡ trimmed content → count ≤ length content → length (record_text v) ≡ 23 + count
+unfolding record_text
+length-record_text v count content same kept within =
+    let size : length (take count content) ≡ count = omega (arith, length-take count content) in
+    let count_too : count ≡ length (trimmed v.content) = sym size ∙ ap length kept ∙ ap (λ (list : List ℕ). length (trimmed list)) same in
+    omega (arith, count_too)

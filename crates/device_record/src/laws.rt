@@ -1,6 +1,6 @@
 //! Laws of records, for proofs above. Their calls do nothing.
 
-ghost use Rattle.std.specs.Prelude.{◌≡◌, ◌≢◌, ℕ, ◌<◌, ◌⊎◌, List, ◌++◌, length, take, drop, Some, Ok};
+ghost use Rattle.std.specs.Prelude.{◌≡◌, ◌≢◌, ℕ, ◌<◌, ◌≤◌, ◌⊎◌, List, ◌++◌, length, take, drop, Some, Ok};
 ghost use Rattle.vt_base.specs.Numbers.{IsBytes};
 ghost use Rattle.vt_base.specs.Layout.{Spells};
 ghost use Rattle.vt_base.specs.Refusing.{malformed};
@@ -50,4 +50,11 @@ pub fn records_are_told_once()
 pub fn records_are_refused_by_rows()
     ensures by_rows { (fault : Malformed) (bytes : List ℕ) → HasRefusedField fault bytes → first_refused bytes ≡ Some fault }
     ensures rows { (fault : Malformed) (bytes : List ℕ) → first_refused bytes ≡ Some fault → HasRefusedField fault bytes }
+{}
+
+/// A record has 23 to 3991 bytes.
+#[tactic(auto, using(crate::proofs::Lengths::record_least, crate::proofs::Lengths::record_most))]
+pub fn records_have_a_length()
+    ensures least { (v : DeviceValues) → 23 ≤ length (record_text v) }
+    ensures most { (v : DeviceValues) → AreFit v → length (record_text v) ≤ 3991 }
 {}

@@ -1,7 +1,7 @@
 //! The record of a device.
 
-ghost use Rattle.std.specs.Prelude.{◌≡◌, ◌≢◌, ◌≤◌, true, take, drop, OnOk, OnErr, IfErr};
-ghost use Rattle.crb_machine.specs.Values.{AreFit, held_values};
+ghost use Rattle.std.specs.Prelude.{◌≡◌, ◌≢◌, ◌≤◌, true, length, take, drop, OnOk, OnErr, IfErr};
+ghost use Rattle.crb_machine.specs.Values.{DeviceValues, AreFit, held_values, with_values};
 ghost use Rattle.crb_machine.specs.Over.{IsSound, HasInHand};
 ghost use Rattle.device_record.specs.Records.{record_text, IsRecord};
 ghost use Rattle.device_record.specs.Layouts.{IsRefused};
@@ -24,6 +24,7 @@ pub fn write_record<P: Port>(device: &Device<P>, into: &mut [u8; RECORD_ROOM]) -
     ensures rest { drop result into.new ≡ drop result into.old }
     ensures fit { AreFit (held_values device.now) }
     ensures within { result ≤ 3991 }
+    ensures size { length (record_text (held_values device.now)) ≡ result }
 {
     let content = device.content();
     let count = trimmed_length(content);
@@ -47,6 +48,7 @@ pub fn load_record<P: Port>(device: &mut Device<P>, bytes: &[u8]) -> Result<(), 
     requires held { device.old.held ≡ true }
 
     ensures ok { OnOk result (IsRecord bytes.now (held_values device.new)) }
+    ensures restored { OnOk result ((v : DeviceValues) → IsRecord bytes.now v → device.new ≡ with_values v device.old) }
     ensures refused { IfErr result (λ fault. IsRefused fault bytes.now) }
     ensures unchanged { OnErr result (device.new ≡ device.old) }
     ensures held { device.new.held ≡ true }

@@ -155,7 +155,6 @@ fn claim_in_each_state(rt: HostRuntime) -> Result<(), Fail> {
 // Has a job go through a port that is both ends, and gives its number.
 fn pass<P: Port + WorkPort>(port: &mut P, job: Job) -> Option<u64>
     requires free { (P.known port.old).is_free ≡ true }
-    requires empty_hand { (P.known port.old).in_hand ≡ None }
 {
     port.queue(job);
     let job = port.claim()?;

@@ -1,10 +1,12 @@
-// Laws of migration messages and of streams of them. Their calls do nothing.
-ghost use Rattle.std.specs.Prelude.{◌≡◌, ◌++◌, ◌∷◌, [], List, ℕ, Option};
+//! Laws of migration messages and of streams of them. Their calls do nothing.
+ghost use Rattle.std.specs.Prelude.{◌≡◌, ◌<◌, ◌^◌, ◌++◌, ◌∷◌, [], List, ℕ, Option};
 ghost use Rattle.vt_base.specs.declared.words.Malformed.{Malformed};
 ghost use Rattle.move_codec.specs.declared.message.Message.{Message};
-ghost use Rattle.move_codec.specs.Spelling.{Moves};
+ghost use Rattle.move_codec.specs.Spelling.{IsInRange, Moves};
 ghost use Rattle.move_codec.specs.Refusals.{Refuses};
 ghost use Rattle.move_codec.specs.Streams.{Carries, Stops};
+
+use crate::message::{Body, Message};
 
 /// Bytes begin with one message, or with one refusal, whatever follows. So what was written is read again.
 pub fn messages_are_told_apart()
@@ -26,3 +28,23 @@ pub fn streams_are_read_once()
         → Carries sent stream rest → Stops stop rest → Carries others stream left → Stops end left
         → (sent ≡ others) × (rest ≡ left) × (stop ≡ end) }
 {}
+
+/// The numbers of a message are those of their types: an Offer has four totals, each below 2³².
+pub fn messages_are_in_range(m: &Message)
+    ensures epoch { m.now.epoch < 2 ^ 64 }
+    ensures body { IsInRange m.now.body }
+{
+    let _epoch = m.epoch;
+    match &m.body {
+        Body::Offer { totals } => {
+            let [_record, _permanent, _volatile, _saved] = *totals;
+        }
+        Body::Need { offset, .. } | Body::Piece { offset, .. } => {
+            let _offset = *offset;
+        }
+        Body::Refuse { value, .. } => {
+            let _value = *value;
+        }
+        Body::Prepared | Body::Commit | Body::Abort => {}
+    }
+}

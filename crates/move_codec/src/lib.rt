@@ -8,7 +8,7 @@
 //!     let mut sent = Vec::new(alloc);
 //!     let (_used, fed) = reader.feed(alloc, received)?;
 //!     match fed {
-//!         FedMessage::Whole(message) => write_message(&message, &mut sent)?,
+//!         FedMessage::Whole(message) => write_message(alloc, &message, &mut sent)?,
 //!         FedMessage::More | FedMessage::Bad(_) | FedMessage::Failed => {}
 //!     }
 //!     Ok(sent)
@@ -26,7 +26,7 @@ mod reader;
 mod writing;
 
 pub use format::LARGEST_PIECE;
-pub use laws::{messages_are_told_apart, streams_are_read_once};
+pub use laws::{messages_are_in_range, messages_are_told_apart, streams_are_read_once};
 pub use message::{Body, Message};
 pub use names::{HostName, Part, Reason};
 pub use reader::{FedMessage, Reader};

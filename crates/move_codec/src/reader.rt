@@ -26,7 +26,7 @@ pub enum FedMessage {
 }
 
 /// Reads migration messages from pieces of any size. Its memory, that of the longest message, is taken by `new`.
-#[derive(Drop)]
+#[derive(Debug, Drop)]
 pub struct Reader {
     begun: Box<Held<LARGEST_MESSAGE>>,
     failed: bool,

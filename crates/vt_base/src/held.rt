@@ -7,7 +7,7 @@ use crate::grammar::{Grammar, Missing};
 use std::marker::Model;
 
 /// At most `N` bytes, kept in place with no memory of the heap.
-#[derive(Drop)]
+#[derive(Debug, Drop)]
 pub struct Held<const N: usize> {
     bytes: [u8; N],
     len: usize,

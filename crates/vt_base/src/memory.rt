@@ -10,7 +10,7 @@ use std::alloc::{AllocError, Global};
 use std::marker::Model;
 
 /// A source of bytes in memory.
-#[derive(Drop)]
+#[derive(Debug, Drop)]
 pub struct MemSource {
     bytes: Bytes,
     place: usize,
@@ -84,7 +84,7 @@ fn copy_front(into: &mut [u8], bytes: &[u8]) -> usize
 }
 
 /// A sink that keeps what is written, in a room that it has from the start.
-#[derive(Drop)]
+#[derive(Debug, Drop)]
 pub struct MemSink {
     bytes: Vec<u8>,
     room: usize,

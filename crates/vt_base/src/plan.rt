@@ -8,7 +8,7 @@ use std::marker::Model;
 
 /// Which calls of an object in memory are to fail, with a count of its calls and of its faults. Both counts stay at
 /// their last value.
-#[derive(Drop)]
+#[derive(Debug, Drop)]
 pub struct FaultPlan {
     failing: Vec<u64>,
     calls: u64,

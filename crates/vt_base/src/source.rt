@@ -30,7 +30,7 @@ pub trait Source {
 }
 
 /// What came of reading an input to its end.
-#[derive(Drop)]
+#[derive(Debug, Drop)]
 pub enum Input {
     /// All its bytes.
     Whole(Vec<u8>),

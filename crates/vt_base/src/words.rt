@@ -1,4 +1,6 @@
 // Words that the crates above share.
+use std::error::Error;
+use std::fmt;
 
 /// One of the two channels of a link to an emulator.
 #[derive(Clone, Copy, Debug, PartialEq, Eq)]
@@ -47,3 +49,32 @@ pub struct Malformed {
     pub why: Why,
     pub place: u32,
 }
+
+impl fmt::Display for Failed {
+    fn fmt<W: fmt::Write>(&self, f: &mut fmt::Formatter<W>) -> fmt::Result {
+        f.write_str("a read, a write or a connection failed")
+    }
+}
+
+impl Error for Failed {}
+
+impl fmt::Display for Why {
+    fn fmt<W: fmt::Write>(&self, f: &mut fmt::Formatter<W>) -> fmt::Result {
+        f.write_str(match self {
+            Why::Magic => "magic",
+            Why::Version => "version",
+            Why::Length => "length",
+            Why::Value => "value",
+            Why::Cut => "cut",
+            Why::Extra => "extra",
+        })
+    }
+}
+
+impl fmt::Display for Malformed {
+    fn fmt<W: fmt::Write>(&self, f: &mut fmt::Formatter<W>) -> fmt::Result {
+        write!(f, "{} at {}", self.why, self.place)
+    }
+}
+
+impl Error for Malformed {}

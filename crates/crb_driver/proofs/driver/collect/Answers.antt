@@ -1,6 +1,5 @@
 use Rattle.std.proofs.Common.{[], ◌∷◌}
-use Rattle.crb_regs.specs.declared.registers.TheConstants.{CTRL_REQ, LOC_CTRL, DATA_BUFFER}
-use Rattle.crb_driver.specs.declared.registers.TheConstants.{GO_IDLE, RELINQUISH}
+use Rattle.crb_regs.specs.declared.registers.TheConstants.{CTRL_REQ, LOC_CTRL, DATA_BUFFER, GO_IDLE, RELINQUISH}
 use Rattle.crb_driver.specs.Accesses.{byte_reads, register_write}
 use Rattle.crb_driver.proofs.Reaching.{reaches-append, reaches-cons}
 use Rattle.crb_driver.proofs.driver.collect.Goals as goal

@@ -1,6 +1,5 @@
 use Rattle.std.proofs.Common.{[], ◌∷◌}
-use Rattle.crb_regs.specs.declared.registers.TheConstants.{CTRL_CANCEL, CTRL_START, DATA_BUFFER}
-use Rattle.crb_driver.specs.declared.registers.TheConstants.{NO_CANCEL, START}
+use Rattle.crb_regs.specs.declared.registers.TheConstants.{CTRL_CANCEL, CTRL_START, DATA_BUFFER, NO_CANCEL, START}
 use Rattle.crb_driver.specs.Accesses.{byte_writes, register_write}
 use Rattle.crb_driver.proofs.Reaching.{reaches-append, reaches-cons}
 use Rattle.crb_driver.proofs.driver.send.Goals as goal
