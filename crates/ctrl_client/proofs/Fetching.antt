@@ -16,12 +16,12 @@ use Rattle.ctrl_codec.specs.declared.request.Request.TheVariants.{GetStateBlob}
 use Rattle.ctrl_codec.specs.Replies.{reply_spelling}
 use Rattle.ctrl_client.specs.declared.fault.ClientFault.{ClientFault}
 use Rattle.ctrl_client.specs.declared.fault.ClientFault.TheVariants.{Link as LinkFault, Result as BadResult, Reply as BadReply}
-use Rattle.ctrl_client.specs.declared.profile.TheConstants.{SUCCESS, BAD_ORDINAL, BAD_PARAMETER, FLAGS_PLACE, TOTAL_PLACE, LENGTH_PLACE}
+use Rattle.ctrl_client.specs.Numbers.{success, bad_ordinal, bad_parameter, flags_place, total_place, length_place}
 use Rattle.ctrl_client.specs.Desk.{Desk, Turn, Obeys, blob_given, piece_of, no_blob, kind_of}
 use Rattle.ctrl_client.specs.Link.{Link, Lane, empty_lane, at_hand, received, cut}
 use Rattle.ctrl_client.specs.Plan.{fails_within, plan_after}
 use Rattle.ctrl_client.specs.Exchange.{IsQuiet, Exchanges, ExchangedBy}
-use Rattle.ctrl_client.specs.Pieces.{BlobFields, judged_fields, is_misfit, refused_fields, fields_at, fields_of_tpm, fields_told, bytes_at, text_of_tpm, piece_given, bytes_given, calls_for, HasField, Fetches, TakesData}
+use Rattle.ctrl_client.specs.Pieces.{BlobFields, judged_fields, leaves_bytes, is_misfit, refused_fields, fields_at, fields_of_tpm, fields_told, bytes_at, text_of_tpm, piece_given, bytes_given, calls_for, HasField, Fetches, TakesData}
 use Rattle.ctrl_client.proofs.Exchanging.{last_fails, last_plan, neither, not_true}
 
 -- ---- the fixed fields
@@ -73,22 +73,22 @@ told_of turn now fields kind offset most tpm is read same left = record {
 told_by : (kind : Kind) (offset : ℕ) (tpm : Option TpmParts) (d : Desk) (turn : Turn) → IfSome tpm (λ t. length (text_of kind t) < 2 ^ 32) → turn ≡ blob_given (Some kind) offset tpm d
     → Told (take 16 (reply_spelling turn.reply turn.payload)) (drop 16 (reply_spelling turn.reply turn.payload)) kind offset d.piece tpm
 told_by kind offset None d turn small given =
-    told_of turn (no_blob BAD_ORDINAL d) (refused_fields BAD_ORDINAL) kind offset d.piece None given
+    told_of turn (no_blob bad_ordinal d) (refused_fields bad_ordinal) kind offset d.piece None given
     (four-read 10 0 0 0 [] (omega arith) (omega arith) (omega arith) (omega arith)) refl refl
 told_by kind offset (Some t) d turn small given = go (nat_lt (length (text_of kind t)) offset) refl
   where
     go : (past : Bool) → nat_lt (length (text_of kind t)) offset ≡ past → Told (take 16 (reply_spelling turn.reply turn.payload)) (drop 16 (reply_spelling turn.reply turn.payload)) kind offset d.piece (Some t)
     go true past =
         let text : List ℕ = text_of kind t in
-        let now : turn ≡ no_blob BAD_PARAMETER d = given ∙ ap (λ (c : Bool). cond c (no_blob BAD_PARAMETER d) (piece_of text offset d)) past in
-        let tells : fields_at text offset d.piece ≡ refused_fields BAD_PARAMETER = ap (λ (c : Bool). cond c (refused_fields BAD_PARAMETER) (record { result = 0; flags = 0; total = length text; size = min d.piece (length text - offset) })) past in
-        told_of turn (no_blob BAD_PARAMETER d) (refused_fields BAD_PARAMETER) kind offset d.piece (Some t) now
+        let now : turn ≡ no_blob bad_parameter d = given ∙ ap (λ (c : Bool). cond c (no_blob bad_parameter d) (piece_of text offset d)) past in
+        let tells : fields_at text offset d.piece ≡ refused_fields bad_parameter = ap (λ (c : Bool). cond c (refused_fields bad_parameter) (record { result = 0; flags = 0; total = length text; size = min d.piece (length text - offset) })) past in
+        told_of turn (no_blob bad_parameter d) (refused_fields bad_parameter) kind offset d.piece (Some t) now
         (four-read 3 0 0 0 [] (omega arith) (omega arith) (omega arith) (omega arith)) (sym tells) refl
     go false past =
         let text : List ℕ = text_of kind t in
         let size : ℕ = min d.piece (length text - offset) in
-        let now : turn ≡ piece_of text offset d = given ∙ ap (λ (c : Bool). cond c (no_blob BAD_PARAMETER d) (piece_of text offset d)) past in
-        let tells : fields_at text offset d.piece ≡ record { result = 0; flags = 0; total = length text; size = size } = ap (λ (c : Bool). cond c (refused_fields BAD_PARAMETER) (record { result = 0; flags = 0; total = length text; size = size })) past in
+        let now : turn ≡ piece_of text offset d = given ∙ ap (λ (c : Bool). cond c (no_blob bad_parameter d) (piece_of text offset d)) past in
+        let tells : fields_at text offset d.piece ≡ record { result = 0; flags = 0; total = length text; size = size } = ap (λ (c : Bool). cond c (refused_fields bad_parameter) (record { result = 0; flags = 0; total = length text; size = size })) past in
         told_of turn (piece_of text offset d) (record { result = 0; flags = 0; total = length text; size = size }) kind offset d.piece (Some t) now
         (four-read 0 0 (length text) size (slice text offset size) (omega arith) (omega arith) small (omega (arith, small))) (sym tells) refl
 
@@ -107,7 +107,7 @@ sent_length : (kind : Kind) (offset : ℕ) (d : Desk) → length (sent kind offs
 sent_length kind offset d = by_tpm d.tpm
   where
     by_text : (text : List ℕ) (past : Bool) (size : ℕ) → size ≤ length text - offset
-        → length (slice text offset (cond past (refused_fields BAD_PARAMETER) (record { result = 0; flags = 0; total = length text; size = size })).size) ≡ (cond past (refused_fields BAD_PARAMETER) (record { result = 0; flags = 0; total = length text; size = size })).size
+        → length (slice text offset (cond past (refused_fields bad_parameter) (record { result = 0; flags = 0; total = length text; size = size })).size) ≡ (cond past (refused_fields bad_parameter) (record { result = 0; flags = 0; total = length text; size = size })).size
     by_text text true size most = refl
     by_text text false size most = omega (arith, length-take size (drop offset text), length-drop offset text)
 
@@ -117,10 +117,10 @@ sent_length kind offset d = by_tpm d.tpm
 
 -- a piece is as long as the fields say
 judged_size : (f : BlobFields) (offset room : ℕ) (p : Piece) → judged_fields f offset room ≡ Ok p → p.length ≡ f.size
-judged_size f offset room p is = go (not (f.result == SUCCESS)) (not (f.flags == 0)) (nat_lt f.total offset) (is_misfit f.size (f.total - offset) room) is
+judged_size f offset room p is = go (not (f.result == success)) (not (f.flags == 0)) (nat_lt f.total offset) (is_misfit f.size (f.total - offset) room) is
   where
     go : (refused flagged past misfit : Bool)
-        → ◌≡◌ {A = Result Piece ClientFault} (cond refused (Err (BadResult f.result)) (cond flagged (Err (BadReply FLAGS_PLACE)) (cond past (Err (BadReply TOTAL_PLACE)) (cond misfit (Err (BadReply LENGTH_PLACE)) (Ok (record { total = f.total; length = f.size })))))) (Ok p)
+        → ◌≡◌ {A = Result Piece ClientFault} (cond refused (Err (BadResult f.result)) (cond flagged (Err (BadReply flags_place)) (cond past (Err (BadReply total_place)) (cond misfit (Err (BadReply length_place)) (Ok (record { total = f.total; length = f.size })))))) (Ok p)
         → p.length ≡ f.size
     go true flagged past misfit is = absurd cc
     go false true past misfit is = absurd cc
@@ -147,6 +147,12 @@ zero_is zero none = refl
 zero_is (suc n) none = grind (arith, nat_tests, none)
 
 -- ---- the calls
+
+-- a refusal that leaves no bytes names none
+none_left : (fault : ClientFault) (size : ℕ) → leaves_bytes (Err fault) size ≡ false → size ≡ 0
+none_left LinkFault size none = zero_is size none
+none_left (BadResult result) size none = zero_is size none
+none_left (BadReply place) size none = absurd cc
 
 module _ {P : Type 0} (fails : P → Bool) (later : P → P) where
   -- once a call failed no more are made
@@ -187,6 +193,8 @@ module _ {P : Type 0} (fails : P → Bool) (later : P → P) where
         link = go (fails_within fails later 1 plan) (subst (λ (b : Bool). ExchangedBy (fails_within fails later 1 plan) b (GetStateBlob 0 type offset) [] (length fixed) l fixed after) lost told.link);
         answer_is = rw both.0 refl;
         bytes = λ none. absurd (clash none both.0);
+        rest = refl;
+        untouched = λ fails. refl;
       }
     where
       negated : (b : Bool) → false ≡ not b → b ≡ true
@@ -237,8 +245,9 @@ module _ {P : Type 0} (fails : P → Bool) (later : P → P) where
           }
 
   -- the answer of the fields is that of the emulator's reply
-  record Stand (kind : Kind) (offset room : ℕ) (l : Link) (plan plan_now : P) (judged : Result Piece ClientFault) (after : Option Link) : Type 0 where
+  record Stand (kind : Kind) (offset room : ℕ) (l : Link) (plan plan_now : P) (size : ℕ) (judged : Result Piece ClientFault) (after : Option Link) : Type 0 where
     quiet : IsQuiet l
+    size_is : size ≡ (fields_told kind offset l.desk).size
     none : fails_within fails later 2 plan ≡ false
     plan_is : plan_now ≡ plan_after fails later 2 plan
     given : piece_given kind offset room l.desk ≡ judged
@@ -246,12 +255,13 @@ module _ {P : Type 0} (fails : P → Bool) (later : P → P) where
 
   stand : (kind : Kind) (type offset room : ℕ) (l : Link) (plan plan_now : P) (fixed : List ℕ) (after : Option Link) (fields : BlobFields) (judged r : Result Piece ClientFault) (got : Bool) → kind_of type ≡ Some kind → length fixed ≡ 16 → got ≡ true
       → (IsQuiet l → Exchanges fails later (GetStateBlob 0 type offset) [] l plan got fixed after plan_now)
-      → judged ≡ judged_fields fields offset room → judged ≡ r → fields ≡ fields_in fixed → HasField kind l → Stand kind offset room l plan plan_now r after
+      → judged ≡ judged_fields fields offset room → judged ≡ r → fields ≡ fields_in fixed → HasField kind l → Stand kind offset room l plan plan_now fields.size r after
   stand kind type offset room l plan plan_now fixed after fields judged r got is whole sent_it told told_fields taken read ready =
       let exchanged : Exchanges fails later (GetStateBlob 0 type offset) [] l plan true fixed after plan_now = subst (λ (b : Bool). Exchanges fails later (GetStateBlob 0 type offset) [] l plan b fixed after plan_now) sent_it (told ready.quiet) in
       let facts : IsHere kind offset l plan plan_now fixed after = here kind type offset l plan plan_now fixed after is ready whole exchanged in
       record {
         quiet = ready.quiet;
+        size_is = ap (λ (f : BlobFields). f.size) (read ∙ facts.read);
         none = facts.none;
         plan_is = facts.plan_is;
         given = ap (λ (f : BlobFields). judged_fields f offset room) (sym facts.read ∙ sym read) ∙ sym told_fields ∙ taken;
@@ -259,15 +269,23 @@ module _ {P : Type 0} (fails : P → Bool) (later : P → P) where
       }
 
   -- the fields make no piece
-  not_given : (kind : Kind) (offset room : ℕ) (l : Link) (plan plan_mid plan_now : P) (old : List ℕ) (mid after : Option Link) (fault : ClientFault) → Stand kind offset room l plan plan_mid (Err fault) mid
-      → after ≡ option_map (cut Ctrl) mid → plan_now ≡ plan_mid
+  not_given : (kind : Kind) (offset room size : ℕ) (l : Link) (plan plan_mid plan_now : P) (old : List ℕ) (mid after : Option Link) (fault : ClientFault) → Stand kind offset room l plan plan_mid size (Err fault) mid
+      → after ≡ cond (leaves_bytes (Err fault) size) (option_map (cut Ctrl) mid) mid → plan_now ≡ plan_mid
       → Fetches fails later kind offset room l plan (Err fault) old old after plan_now
-  not_given kind offset room l plan plan_mid plan_now old mid after fault is cuts planned = record {
+  not_given kind offset room size l plan plan_mid plan_now old mid after fault is cuts planned = record {
     plan_is = planned ∙ is.plan_is ∙ ap (λ (r : Result Piece ClientFault). plan_after fails later (calls_for r) plan) (sym is.given);
-    link = cuts ∙ ap (option_map (cut Ctrl)) is.link ∙ ap (λ (x : Lane). Some (record l { control = x })) (sym is.quiet.nothing);
+    link = go (leaves_bytes (Err fault) size) refl cuts;
     answer_is = sym (ap (λ (r : Result Piece ClientFault). cond (fails_within fails later (calls_for r) plan) (Err LinkFault) r) is.given ∙ ap (λ (c : Bool). cond c (Err LinkFault) (Err fault)) is.none);
     bytes = λ made. ap (λ (r : Result Piece ClientFault). bytes_at r (text_of_tpm kind l.desk.tpm) offset ++ drop (length (bytes_at r (text_of_tpm kind l.desk.tpm) offset)) old) (sym is.given);
+    rest = refl;
+    untouched = λ fails. refl;
   }
+    where
+      go : (b : Bool) → leaves_bytes (Err fault) size ≡ b → after ≡ cond b (option_map (cut Ctrl) mid) mid → after ≡ Some l
+      go true left cuts = cuts ∙ ap (option_map (cut Ctrl)) is.link ∙ ap (λ (x : Lane). Some (record l { control = x })) (sym is.quiet.nothing)
+      go false left kept =
+          let nothing : sent kind offset l.desk ≡ [] = empty (sent kind offset l.desk) (sent_length kind offset l.desk ∙ sym is.size_is ∙ none_left fault size left) in
+          kept ∙ is.link ∙ ap (λ (x : List ℕ). Some (record l { control = record { begun = []; waiting = x } })) nothing ∙ ap (λ (x : Lane). Some (record l { control = x })) (sym is.quiet.nothing)
 
   -- nothing is left on the channel
   emptied : (l : Link) (count : ℕ) (bytes : List ℕ) (lost : Bool) → IsQuiet l → drop count bytes ≡ [] → ◌≡◌ {A = Option Link} (Some (received (not lost) Ctrl count (record l { control = record { begun = []; waiting = bytes } }))) (Some l)
@@ -280,6 +298,7 @@ module _ {P : Type 0} (fails : P → Bool) (later : P → P) where
     link : after ≡ Some l
     answer_is : answer ≡ cond (fails_within fails later (calls_for r) plan) (Err LinkFault) r
     bytes : fails_within fails later (calls_for r) plan ≡ false → new ≡ front ++ drop (length front) old
+    rest : drop (length front) new ≡ drop (length front) old
 
   -- a piece is taken, by whether it has data
   taken_whole : (l : Link) (plan plan_mid plan_now : P) (bytes old new : List ℕ) (after : Option Link) (p : Piece) (answer : Result Piece ClientFault) → IsQuiet l → fails_within fails later 2 plan ≡ false → plan_mid ≡ plan_after fails later 2 plan → length bytes ≡ p.length
@@ -296,8 +315,9 @@ module _ {P : Type 0} (fails : P → Bool) (later : P → P) where
             link = link ∙ ap (λ (x : List ℕ). Some (record l { control = record { begun = []; waiting = x } })) nothing ∙ ap (λ (x : Lane). Some (record l { control = x })) (sym quiet.nothing);
             answer_is = answered ∙ sym (ap (λ n. cond (fails_within fails later n plan) (Err LinkFault) (Ok p)) calls ∙ ap (λ (c : Bool). cond c (Err LinkFault) (Ok p)) none);
             bytes = λ made. kept ∙ ap (λ (x : List ℕ). x ++ drop (length x) old) (sym nothing);
+            rest = ap (drop (length bytes)) kept;
           }
-      go true some_data (answered, filled, link, plan_is) =
+      go true some_data (answered, filled, link, plan_is, kept) =
           let calls : calls_for (Ok p) ≡ 3 = ap (λ (b : Bool). cond b 3 2) some_data in
           let last : fails_within fails later 3 plan ≡ fails plan_mid = last_fails fails later 2 plan none ∙ ap fails (sym planned) in
           let all : take p.length bytes ≡ bytes = take_all p.length bytes (omega (arith, whole)) in
@@ -307,24 +327,28 @@ module _ {P : Type 0} (fails : P → Bool) (later : P → P) where
             link = link ∙ emptied l p.length bytes (fails plan_mid) quiet left;
             answer_is = answered ∙ sym (ap (λ n. cond (fails_within fails later n plan) (Err LinkFault) (Ok p)) calls ∙ ap (λ (c : Bool). cond c (Err LinkFault) (Ok p)) last);
             bytes = λ made. filled (sym last ∙ ap (λ n. fails_within fails later n plan) (sym calls) ∙ made) ∙ ap (λ (x : List ℕ). x ++ drop p.length old) all ∙ ap (λ n. bytes ++ drop n old) (sym whole);
+            rest = ap (λ n. drop n new) whole ∙ kept ∙ sym (ap (λ n. drop n old) whole);
           }
 
   -- the piece is received
-  given : (kind : Kind) (offset room : ℕ) (l : Link) (plan plan_mid plan_now : P) (old new : List ℕ) (mid after : Option Link) (p : Piece) (answer : Result Piece ClientFault) → Stand kind offset room l plan plan_mid (Ok p) mid
+  given : (kind : Kind) (offset room told : ℕ) (l : Link) (plan plan_mid plan_now : P) (old new : List ℕ) (mid after : Option Link) (p : Piece) (answer : Result Piece ClientFault) → Stand kind offset room l plan plan_mid told (Ok p) mid
       → IfSome mid (λ m. p.length ≤ length (at_hand Ctrl m) → TakesData (nat_lt 0 p.length) fails later p m plan_mid answer old new after plan_now)
       → Fetches fails later kind offset room l plan answer old new after plan_now
-  given kind offset room l plan plan_mid plan_now old new mid after p answer is takes =
+  given kind offset room told l plan plan_mid plan_now old new mid after p answer is takes =
       let size : p.length ≡ (fields_told kind offset l.desk).size = judged_size (fields_told kind offset l.desk) offset room p is.given in
       let all : bytes_given kind offset room l.desk ≡ sent kind offset l.desk = sent_bytes kind offset room l.desk p is.given in
       let whole : length (sent kind offset l.desk) ≡ p.length = sent_length kind offset l.desk ∙ sym size in
       let m : Link = record l { control = record { begun = []; waiting = sent kind offset l.desk } } in
-      let told : IfSome (Some m) (λ m. p.length ≤ length (at_hand Ctrl m) → TakesData (nat_lt 0 p.length) fails later p m plan_mid answer old new after plan_now) =
+      let waits : IfSome (Some m) (λ m. p.length ≤ length (at_hand Ctrl m) → TakesData (nat_lt 0 p.length) fails later p m plan_mid answer old new after plan_now) =
       subst (λ (o : Option Link). IfSome o (λ m. p.length ≤ length (at_hand Ctrl m) → TakesData (nat_lt 0 p.length) fails later p m plan_mid answer old new after plan_now)) is.link takes in
-      let gives : Ends l plan (Ok p) (sent kind offset l.desk) answer old new after plan_now = taken_whole l plan plan_mid plan_now (sent kind offset l.desk) old new after p answer is.quiet is.none is.plan_is whole (told (omega (arith, whole))) in
+      let gives : Ends l plan (Ok p) (sent kind offset l.desk) answer old new after plan_now = taken_whole l plan plan_mid plan_now (sent kind offset l.desk) old new after p answer is.quiet is.none is.plan_is whole (waits (omega (arith, whole))) in
       let now : Ends l plan (piece_given kind offset room l.desk) (bytes_given kind offset room l.desk) answer old new after plan_now =
       subst (λ (r : Result Piece ClientFault). Ends l plan r (bytes_given kind offset room l.desk) answer old new after plan_now) (sym is.given)
       (subst (λ (front : List ℕ). Ends l plan (Ok p) front answer old new after plan_now) (sym all) gives) in
-      record { plan_is = now.plan_is; link = now.link; answer_is = now.answer_is; bytes = now.bytes }
+      record { plan_is = now.plan_is; link = now.link; answer_is = now.answer_is; bytes = now.bytes; rest = now.rest; untouched = λ fails. absurd (clash is.none fails) }
+    where
+      clash : fails_within fails later 2 plan ≡ false → fails_within fails later 2 plan ≡ true → ⊥
+      clash none met = let wrong : false ≡ true = sym none ∙ met in cc
 
   -- over wires that tell their link
   pub fetch_failed : (kind : Kind) (type offset room : ℕ) (o : Option Link) (plan plan_now : P) (fixed old : List ℕ) (after : Option Link) (got : Bool) → kind_of type ≡ Some kind → got ≡ false
@@ -342,17 +366,17 @@ module _ {P : Type 0} (fails : P → Bool) (later : P → P) where
       → IfSome o (λ l. HasField kind l → Fetches fails later kind offset room l plan answer old new after plan_now)
   fetch_given kind type offset room None plan plan_mid plan_now fixed old new mid after fields judged p answer got is whole sent_it told told_fields ok read takes = tt
   fetch_given kind type offset room (Some l) plan plan_mid plan_now fixed old new mid after fields judged p answer got is whole sent_it told told_fields ok read takes = λ ready.
-      given kind offset room l plan plan_mid plan_now old new mid after p answer
+      given kind offset room fields.size l plan plan_mid plan_now old new mid after p answer
       (stand kind type offset room l plan plan_mid fixed mid fields judged (Ok p) got is whole sent_it told told_fields ok read ready) takes
 
   pub fetch_refused : (kind : Kind) (type offset room : ℕ) (o : Option Link) (plan plan_mid plan_now : P) (fixed old : List ℕ) (mid after : Option Link) (fields : BlobFields) (judged : Result Piece ClientFault) (fault : ClientFault) (got : Bool)
       → kind_of type ≡ Some kind → length fixed ≡ 16 → got ≡ true
       → IfSome o (λ l. IsQuiet l → Exchanges fails later (GetStateBlob 0 type offset) [] l plan got fixed mid plan_mid)
       → judged ≡ judged_fields fields offset room → judged ≡ Err fault → fields ≡ fields_in fixed
-      → after ≡ option_map (cut Ctrl) mid → IfSome mid (λ m. plan_now ≡ plan_mid)
+      → after ≡ cond (leaves_bytes (Err fault) fields.size) (option_map (cut Ctrl) mid) mid → IfSome mid (λ m. plan_now ≡ plan_mid)
       → IfSome o (λ l. HasField kind l → Fetches fails later kind offset room l plan (Err fault) old old after plan_now)
   fetch_refused kind type offset room None plan plan_mid plan_now fixed old mid after fields judged fault got is whole sent_it told told_fields err read cuts planned = tt
   fetch_refused kind type offset room (Some l) plan plan_mid plan_now fixed old mid after fields judged fault got is whole sent_it told told_fields err read cuts planned = λ ready.
-      let facts : Stand kind offset room l plan plan_mid (Err fault) mid = stand kind type offset room l plan plan_mid fixed mid fields judged (Err fault) got is whole sent_it told told_fields err read ready in
+      let facts : Stand kind offset room l plan plan_mid fields.size (Err fault) mid = stand kind type offset room l plan plan_mid fixed mid fields judged (Err fault) got is whole sent_it told told_fields err read ready in
       let same : plan_now ≡ plan_mid = subst (λ (o : Option Link). IfSome o (λ m. plan_now ≡ plan_mid)) facts.link planned in
-      not_given kind offset room l plan plan_mid plan_now old mid after fault facts cuts same
+      not_given kind offset room fields.size l plan plan_mid plan_now old mid after fault facts cuts same

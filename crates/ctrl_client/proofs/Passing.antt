@@ -1,16 +1,17 @@
 -- Bytes that pass one call after the other.
-use Rattle.std.proofs.Common.{◌≡◌, ◌≢◌, ℕ, ◌+◌, ◌≤◌, List, [], ◌++◌, length, take, drop, Option, Some, None, Result, Ok, Err, sym, ap, ◌∙◌, append_assoc, arith}
-use Rattle.std.specs.Prelude.{option_map, IfOk, IfErr, OnOk, OnErr}
+use Rattle.std.proofs.Common.{◌≡◌, ◌≢◌, ℕ, ◌+◌, ◌<◌, ◌≤◌, Bool, List, [], ◌++◌, length, take, drop, Option, Some, None, Result, Ok, Err, refl, sym, ap, subst, ◌∙◌, append_assoc, append-nil, arith, cond, inr}
+use Rattle.std.specs.Prelude.{option_map, IfSome, IfOk, IfErr, OnOk, OnErr}
 use Rattle.std.proofs.Math.Seq.{take-append-add}
-use Rattle.std.proofs.lemmas.List.{length-take-le, take-append-le, length-append, map-append}
+use Rattle.std.proofs.lemmas.List.{length-take, length-take-le, take-append-le, take-take, length-append, map-append}
 use Rattle.vt_base.specs.declared.words.Chan.{Chan}
 use Rattle.vt_base.specs.declared.words.Chan.TheVariants.{Ctrl}
 use Rattle.state_blobs.specs.declared.words.Piece.{Piece}
 use Rattle.ctrl_codec.specs.declared.request.Request.{Request}
 use Rattle.ctrl_client.specs.declared.fault.ClientFault.{ClientFault}
 use Rattle.ctrl_client.specs.declared.fault.ClientFault.TheVariants.{Link as LinkFault}
-use Rattle.ctrl_client.specs.Pieces.{judged_fields}
-use Rattle.ctrl_client.specs.Traffic.{Traffic, over, with_sent, with_received, Came, CamePart, Passed, request_text, fields_in, TellsPiece}
+use Rattle.ctrl_client.specs.Pieces.{judged_fields, leaves_bytes}
+use Rattle.ctrl_client.specs.Link.{Link, empty_lane, cut}
+use Rattle.ctrl_client.specs.Traffic.{Traffic, over, with_sent, with_received, Came, CamePart, Passed, request_text, fields_in, TellsPiece, LeavesSlice}
 
 -- bytes behind others, and both over one channel
 behind : (chan : Chan) (was : List (Chan × ℕ)) (first bytes : List ℕ) → (was ++ over chan first) ++ over chan bytes ≡ was ++ over chan (first ++ bytes)
@@ -47,16 +48,57 @@ came_part (Err fault) chan count into part behind before mid after within first 
     (count + n, omega (arith, size, less), came_behind chan count n into part behind before mid after within (omega (arith, less)) first more)
 
 -- a piece that its fields tell, with its data
-pub tells_piece : (q : Request) (offset : ℕ) (before mid after : Option Traffic) (fixed old new : List ℕ) (judged answer : Result Piece ClientFault) (piece : Piece)
+pub tells_piece : (q : Request) (offset : ℕ) (before mid after : Option Traffic) (link : Option Link) (fixed old new : List ℕ) (judged answer : Result Piece ClientFault) (piece : Piece)
     → length fixed ≡ 16 → Passed q [] fixed before mid → judged ≡ judged_fields (fields_in fixed) offset (length old) → judged ≡ Ok piece
-    → IfOk answer (λ p. p ≡ piece) → IfErr answer (λ fault. fault ≡ LinkFault) → OnOk answer (Came Ctrl (take piece.length new) mid after) → OnOk answer (drop piece.length new ≡ drop piece.length old)
-    → answer ≢ Err LinkFault → TellsPiece q offset before after old new answer
-tells_piece q offset before mid after fixed old new judged (Ok p) piece size first told is same link came rest answered =
+    → IfOk answer (λ p. p ≡ piece) → IfErr answer (λ fault. fault ≡ LinkFault) → OnOk answer (Came Ctrl (take piece.length new) mid after) → drop piece.length new ≡ drop piece.length old
+    → answer ≢ Err LinkFault → TellsPiece q offset before after link old new answer
+tells_piece q offset before mid after link fixed old new judged (Ok p) piece size first told is same failed came rest answered =
     record {
       fixed = fixed;
       size = size;
       passed = rw same (passed_joins q [] fixed (take piece.length new) before mid after first came);
       answer_is = ap Ok same ∙ sym is ∙ told;
       rest = rw same rest;
+      forgotten = λ left. absurd cc;
     }
-tells_piece q offset before mid after fixed old new judged (Err fault) piece size first told is same link came rest answered = absurd (answered (ap Err link))
+tells_piece q offset before mid after link fixed old new judged (Err fault) piece size first told is same failed came rest answered = absurd (answered (ap Err failed))
+
+-- nothing waits on a channel that was cut
+cut_empties : (mid link : Option Link) → link ≡ option_map (cut Ctrl) mid → IfSome link (λ l. l.control ≡ empty_lane)
+cut_empties None link is = subst (λ (o : Option Link). IfSome o (λ l. l.control ≡ empty_lane)) (sym is) tt
+cut_empties (Some m) link is = subst (λ (o : Option Link). IfSome o (λ l. l.control ≡ empty_lane)) (sym is) refl
+
+-- fields that tell no piece
+pub tells_refusal : (q : Request) (offset : ℕ) (before after : Option Traffic) (mid link : Option Link) (fixed old : List ℕ) (judged : Result Piece ClientFault) (fault : ClientFault)
+    → length fixed ≡ 16 → Passed q [] fixed before after → judged ≡ judged_fields (fields_in fixed) offset (length old) → judged ≡ Err fault
+    → link ≡ cond (leaves_bytes (Err fault) (fields_in fixed).size) (option_map (cut Ctrl) mid) mid
+    → TellsPiece q offset before after link old old (Err fault)
+tells_refusal q offset before after mid link fixed old judged fault size passed told is cuts =
+    record {
+      fixed = fixed;
+      size = size;
+      passed = subst (λ (xs : List ℕ). Passed q [] xs before after) (sym (append-nil fixed)) passed;
+      answer_is = sym is ∙ told;
+      rest = refl;
+      forgotten = λ left. cut_empties mid link (cuts ∙ ap (λ (b : Bool). cond b (option_map (cut Ctrl) mid) mid) left);
+    }
+
+-- a piece that its fields tell, and whose data was lost
+pub loses_data : (q : Request) (offset : ℕ) (before mid after : Option Traffic) (fixed old new : List ℕ) (judged answer : Result Piece ClientFault) (piece : Piece)
+    → length fixed ≡ 16 → Passed q [] fixed before mid → judged ≡ judged_fields (fields_in fixed) offset (length old) → judged ≡ Ok piece
+    → OnErr answer (CamePart Ctrl (take piece.length new) mid after) → drop piece.length new ≡ drop piece.length old
+    → answer ≡ Err LinkFault → LeavesSlice q offset before after old new
+loses_data q offset before mid after fixed old new judged (Ok p) piece size first told is part rest lost = absurd cc
+loses_data q offset before mid after fixed old new judged (Err fault) piece size first told is (n, less, came) rest lost =
+    let fewer : n < piece.length = omega (arith, less, length-take piece.length new) in
+    inr (record {
+      fixed = fixed;
+      size = size;
+      piece = piece;
+      piece_is = sym told ∙ is;
+      count = n;
+      fewer = fewer;
+      passed = subst (λ (xs : List ℕ). Passed q [] (fixed ++ xs) before after) (take-take n piece.length new (omega (arith, fewer)))
+          (passed_joins q [] fixed (take n (take piece.length new)) before mid after first came);
+      rest = rest;
+    })

@@ -3,7 +3,7 @@ use Rattle.std.specs.Prelude.{◌≡◌, ◌-◌, ℕ, Bool, true, false, not, �
 use Rattle.vt_base.specs.declared.words.Kind.{Kind}
 use Rattle.vt_base.specs.declared.words.Kind.TheVariants.{Permanent, Volatile, Saved}
 use Rattle.vt_base.specs.declared.words.Malformed.{Malformed}
-use Rattle.tpm_frame.specs.declared.TheConstants.{FAILURE, CANCELED}
+use Rattle.tpm_frame.specs.Numbers.{rc_failure, rc_canceled}
 use Rattle.tpm_frame.specs.Frame.{short}
 use Rattle.tpm_core.specs.declared.parts.TpmParts.{TpmParts}
 use Rattle.tpm_core.specs.Answers.{powered_on, values_after, answer}
@@ -12,13 +12,13 @@ use Rattle.state_blobs.specs.Texts.{text_of, slice}
 use Rattle.state_blobs.specs.Refusals.{IsRefused}
 use Rattle.state_blobs.specs.declared.words.BlobFault.{BlobFault}
 use Rattle.state_blobs.specs.Assembly.{IsAssembled, IsFault}
+use Rattle.ctrl_client.specs.Numbers.{success, bad_parameter, bad_ordinal, capabilities, delete_volatile, permanent_blob, volatile_blob, saved_blob, least_buffer, greatest_buffer}
 use Rattle.ctrl_codec.specs.declared.request.Request.{Request}
 use Rattle.ctrl_codec.specs.declared.request.Request.TheVariants.{GetCapability, Init, Shutdown, GetEstablished, SetLocality, CancelCommand, StoreVolatile, ResetEstablished, GetStateBlob, SetStateBlob, Stop, GetConfig, SetBufferSize}
 use Rattle.ctrl_codec.specs.declared.request.RequestFault.{RequestFault}
 use Rattle.ctrl_codec.specs.declared.request.RequestFault.TheVariants.{Code, Length}
 use Rattle.ctrl_codec.specs.declared.reply.Reply.{Reply}
 use Rattle.ctrl_codec.specs.declared.reply.Reply.TheVariants as reply
-use Rattle.ctrl_client.specs.declared.profile.TheConstants.{SUCCESS, BAD_PARAMETER, BAD_ORDINAL, CAPABILITIES, DELETE_VOLATILE, PERMANENT_BLOB, VOLATILE_BLOB, SAVED_BLOB, LEAST_BUFFER, GREATEST_BUFFER}
 
 -- a command that is held, and whether a cancel came since
 pub record Held : Type 0 where
@@ -62,16 +62,16 @@ with_gather Saved bytes g = record g { saved = bytes }
 -- the kind of blob of a type, if there is one
 abbrev pub kind_of : ℕ → Option Kind
 kind_of type =
-    if type == PERMANENT_BLOB then Some Permanent
-    else (if type == VOLATILE_BLOB then Some Volatile
-    else (if type == SAVED_BLOB then Some Saved
+    if type == permanent_blob then Some Permanent
+    else (if type == volatile_blob then Some Volatile
+    else (if type == saved_blob then Some Saved
     else None))
 
 -- the type of a kind
 abbrev pub type_of : Kind → ℕ
-type_of Permanent = PERMANENT_BLOB
-type_of Volatile = VOLATILE_BLOB
-type_of Saved = SAVED_BLOB
+type_of Permanent = permanent_blob
+type_of Volatile = volatile_blob
+type_of Saved = saved_blob
 
 -- the emulator after a message, and the reply with its data
 pub record Turn : Type 0 where
@@ -100,12 +100,12 @@ switched_on t d = record d { tpm = Some t; on = true; stored = false; gathers = 
 
 -- with nothing gathered, the TPM that is there is powered on anew, unless its volatile state was stored and is kept
 abbrev pub started_here : ℕ → Option TpmParts → Desk → Turn
-started_here flags None d = resulted BAD_ORDINAL d
-started_here flags (Some t) d = resulted SUCCESS (switched_on (if d.stored && flags == 0 then t else powered_on t) d)
+started_here flags None d = resulted bad_ordinal d
+started_here flags (Some t) d = resulted success (switched_on (if d.stored && flags == 0 then t else powered_on t) d)
 
 -- the volatile blob that counts
 abbrev pub volatile_taken : ℕ → Gathers → List ℕ
-volatile_taken flags g = if flags == DELETE_VOLATILE then [] else g.volatile
+volatile_taken flags g = if flags == delete_volatile then [] else g.volatile
 
 -- a TPM with no volatile state is powered on
 abbrev pub started_with : List ℕ → TpmParts → TpmParts
@@ -115,8 +115,8 @@ started_with (b ∷ bytes) t = t
 -- the TPM is assembled from the blobs that were gathered, or they are refused
 abbrev pub Assembled : List ℕ → Desk → Turn → Type 0
 Assembled volatile d turn =
-    ((t : TpmParts) × IsAssembled d.gathers.permanent volatile d.gathers.saved t × (turn ≡ resulted SUCCESS (switched_on (started_with volatile t) d)))
-    ⊎ ((fault : BlobFault) × IsFault d.gathers.permanent volatile d.gathers.saved fault × (turn ≡ resulted BAD_PARAMETER d))
+    ((t : TpmParts) × IsAssembled d.gathers.permanent volatile d.gathers.saved t × (turn ≡ resulted success (switched_on (started_with volatile t) d)))
+    ⊎ ((fault : BlobFault) × IsFault d.gathers.permanent volatile d.gathers.saved fault × (turn ≡ resulted bad_parameter d))
 
 -- whether no byte of a blob was gathered
 abbrev pub is_nothing : Gathers → Bool
@@ -129,7 +129,7 @@ StartsBy false flags d turn = Assembled (volatile_taken flags d.gathers) d turn
 
 -- by whether a bit of the flags is set that says nothing
 abbrev pub InitsBy : Bool → ℕ → Desk → Turn → Type 0
-InitsBy true flags d turn = turn ≡ resulted BAD_PARAMETER d
+InitsBy true flags d turn = turn ≡ resulted bad_parameter d
 InitsBy false flags d turn = StartsBy (is_nothing d.gathers) flags d turn
 
 -- ---- blobs
@@ -142,27 +142,27 @@ no_blob result d = replied (reply.Blob result 0 0 0) d
 abbrev pub piece_of : List ℕ → ℕ → Desk → Turn
 piece_of text offset d =
     let size = min d.piece (length text - offset) in
-    record { desk = d; reply = reply.Blob SUCCESS 0 (length text) size; payload = slice text offset size }
+    record { desk = d; reply = reply.Blob success 0 (length text) size; payload = slice text offset size }
 
 abbrev pub blob_given : Option Kind → ℕ → Option TpmParts → Desk → Turn
-blob_given None offset tpm d = no_blob BAD_PARAMETER d
-blob_given (Some kind) offset None d = no_blob BAD_ORDINAL d
+blob_given None offset tpm d = no_blob bad_parameter d
+blob_given (Some kind) offset None d = no_blob bad_ordinal d
 blob_given (Some kind) offset (Some t) d =
-    if nat_lt (length (text_of kind t)) offset then no_blob BAD_PARAMETER d else piece_of (text_of kind t) offset d
+    if nat_lt (length (text_of kind t)) offset then no_blob bad_parameter d else piece_of (text_of kind t) offset d
 
 -- a piece is added to what was gathered; one that no blob goes on with is refused, and changes nothing
 abbrev pub TakesPiece : Option Kind → List ℕ → Desk → Turn → Type 0
-TakesPiece None bytes d turn = turn ≡ resulted BAD_PARAMETER d
-TakesPiece (Some kind) [] d turn = turn ≡ resulted SUCCESS d
+TakesPiece None bytes d turn = turn ≡ resulted bad_parameter d
+TakesPiece (Some kind) [] d turn = turn ≡ resulted success d
 TakesPiece (Some kind) (b ∷ bytes) d turn =
     let all = gather_of kind d.gathers ++ b ∷ bytes in
-    (((fault : Malformed) → IsRefused kind fault all → ⊥) × (turn ≡ resulted SUCCESS (record d { gathers = with_gather kind all d.gathers })))
-    ⊎ ((fault : Malformed) × IsRefused kind fault all × (turn ≡ resulted BAD_PARAMETER d))
+    (((fault : Malformed) → IsRefused kind fault all → ⊥) × (turn ≡ resulted success (record d { gathers = with_gather kind all d.gathers })))
+    ⊎ ((fault : Malformed) × IsRefused kind fault all × (turn ≡ resulted bad_parameter d))
 
 -- by whether the TPM is on, and whether the flags are 0
 abbrev pub BlobTaken : Bool → Bool → ℕ → List ℕ → Desk → Turn → Type 0
-BlobTaken true plain type bytes d turn = turn ≡ resulted BAD_ORDINAL d
-BlobTaken false false type bytes d turn = turn ≡ resulted BAD_PARAMETER d
+BlobTaken true plain type bytes d turn = turn ≡ resulted bad_ordinal d
+BlobTaken false false type bytes d turn = turn ≡ resulted bad_parameter d
 BlobTaken false true type bytes d turn = TakesPiece (kind_of type) bytes d turn
 
 -- ---- the other messages
@@ -177,31 +177,31 @@ switched_off d = record d { on = false; gathers = no_gathers }
 
 -- the size of the buffer that was asked for, brought into its range; 0 asks for it
 abbrev pub buffer_for : ℕ → ℕ → ℕ
-buffer_for size now = if size == 0 then now else min (max size LEAST_BUFFER) GREATEST_BUFFER
+buffer_for size now = if size == 0 then now else min (max size least_buffer) greatest_buffer
 
 abbrev pub with_buffer : ℕ → Desk → Turn
-with_buffer size d = replied (reply.Buffer SUCCESS size LEAST_BUFFER GREATEST_BUFFER) (record d { buffer = size })
+with_buffer size d = replied (reply.Buffer success size least_buffer greatest_buffer) (record d { buffer = size })
 
 -- what a whole request with its data does to an emulator whose control channel is open, and the reply
 abbrev pub Obeys : Request → List ℕ → Desk → Turn → Type 0
-Obeys GetCapability bytes d turn = turn ≡ replied (reply.Capability CAPABILITIES) d
-Obeys (Init flags) bytes d turn = InitsBy (nat_lt DELETE_VOLATILE flags) flags d turn
-Obeys Shutdown bytes d turn = turn ≡ resulted SUCCESS (record (switched_off d) { closed = true })
-Obeys GetEstablished bytes d turn = turn ≡ replied (reply.Established SUCCESS 0) d
-Obeys (SetLocality locality) bytes d turn = turn ≡ resulted (if locality == 0 then SUCCESS else BAD_PARAMETER) d
-Obeys CancelCommand bytes d turn = turn ≡ resulted SUCCESS (record d { held = option_map marked d.held })
-Obeys StoreVolatile bytes d turn = turn ≡ (if d.on then resulted SUCCESS (record d { stored = true }) else resulted BAD_ORDINAL d)
-Obeys (ResetEstablished locality) bytes d turn = turn ≡ resulted SUCCESS d
-Obeys (GetStateBlob flags type offset) bytes d turn = turn ≡ (if flags == 0 then blob_given (kind_of type) offset d.tpm d else no_blob BAD_PARAMETER d)
+Obeys GetCapability bytes d turn = turn ≡ replied (reply.Capability capabilities) d
+Obeys (Init flags) bytes d turn = InitsBy (nat_lt delete_volatile flags) flags d turn
+Obeys Shutdown bytes d turn = turn ≡ resulted success (record (switched_off d) { closed = true })
+Obeys GetEstablished bytes d turn = turn ≡ replied (reply.Established success 0) d
+Obeys (SetLocality locality) bytes d turn = turn ≡ resulted (if locality == 0 then success else bad_parameter) d
+Obeys CancelCommand bytes d turn = turn ≡ resulted success (record d { held = option_map marked d.held })
+Obeys StoreVolatile bytes d turn = turn ≡ (if d.on then resulted success (record d { stored = true }) else resulted bad_ordinal d)
+Obeys (ResetEstablished locality) bytes d turn = turn ≡ resulted success d
+Obeys (GetStateBlob flags type offset) bytes d turn = turn ≡ (if flags == 0 then blob_given (kind_of type) offset d.tpm d else no_blob bad_parameter d)
 Obeys (SetStateBlob flags type size) bytes d turn = BlobTaken d.on (flags == 0) type bytes d turn
-Obeys Stop bytes d turn = turn ≡ resulted SUCCESS (switched_off d)
-Obeys GetConfig bytes d turn = turn ≡ replied (reply.Config SUCCESS 0) d
+Obeys Stop bytes d turn = turn ≡ resulted success (switched_off d)
+Obeys GetConfig bytes d turn = turn ≡ replied (reply.Config success 0) d
 Obeys (SetBufferSize size) bytes d turn = turn ≡ with_buffer (buffer_for size d.buffer) d
 
 -- a code outside the profile, and a blob's length above the limit, close the channel
 abbrev pub fault_result : RequestFault → ℕ
-fault_result (Code code) = BAD_ORDINAL
-fault_result (Length size) = BAD_PARAMETER
+fault_result (Code code) = bad_ordinal
+fault_result (Length size) = bad_parameter
 
 abbrev pub closed_for : RequestFault → Desk → Turn
 closed_for fault d = resulted (fault_result fault) (record d { closed = true })
@@ -214,7 +214,7 @@ holding command d = record d { held = Some (record { command = command; cancelle
 
 -- the response of the TPM that is on
 abbrev pub response_of : Option TpmParts → List ℕ → List ℕ
-response_of None command = short FAILURE
+response_of None command = short rc_failure
 response_of (Some t) command = answer t [] command
 
 -- the TPM once it executed a command
@@ -223,7 +223,7 @@ executed_by command t = values_after t (Executed command ∷ [])
 
 -- the response to the command that is held
 abbrev pub response_to : Held → Desk → List ℕ
-response_to h d = if d.on then (if h.cancelled then short CANCELED else response_of d.tpm h.command) else short FAILURE
+response_to h d = if d.on then (if h.cancelled then short rc_canceled else response_of d.tpm h.command) else short rc_failure
 
 -- the emulator once it answered the command that it held: it is executed where the TPM is on and no cancel came
 abbrev pub ran : Held → Desk → Desk

@@ -7,7 +7,7 @@ use Rattle.ctrl_codec.specs.declared.reply.Reply.TheVariants as reply
 use Rattle.ctrl_codec.specs.Replies.{reply_spelling}
 use Rattle.ctrl_client.specs.declared.fault.ClientFault.{ClientFault}
 use Rattle.ctrl_client.specs.declared.fault.ClientFault.TheVariants.{Link as LinkFault, Result as BadResult}
-use Rattle.ctrl_client.specs.declared.profile.TheConstants.{SUCCESS}
+use Rattle.ctrl_client.specs.Numbers.{success}
 use Rattle.ctrl_client.specs.Desk.{Turn, Obeys}
 use Rattle.ctrl_client.specs.Link.{Link, empty_lane, with_turn, taken}
 use Rattle.vt_base.specs.declared.words.Chan.TheVariants.{Ctrl}
@@ -26,7 +26,7 @@ sends_of (b ∷ bytes) = 2
 
 -- the result in a reply, its first number
 abbrev pub result_of : Reply → ℕ
-result_of (reply.Capability value) = SUCCESS
+result_of (reply.Capability value) = 0
 result_of (reply.Result result) = result
 result_of (reply.Established result bit) = result
 result_of (reply.Blob result flags total size) = result
@@ -79,7 +79,7 @@ HasResult q = ⊥
 
 -- what is answered for a result
 abbrev pub judged_result : ℕ → Result (Unit {0}) ClientFault
-judged_result result = if result == SUCCESS then Ok tt else Err (BadResult result)
+judged_result result = if result == success then Ok tt else Err (BadResult result)
 
 -- by whether a send failed, and whether any call did
 abbrev pub CommandedBy : Bool → Bool → Request → List ℕ → Link → Result (Unit {0}) ClientFault → Option Link → Type 0

@@ -1,3 +1,4 @@
+pub mod Numbers
 pub mod Desk
 pub mod Plan
 pub mod Link

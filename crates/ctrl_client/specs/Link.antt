@@ -8,9 +8,9 @@ use Rattle.tpm_frame.specs.Frames.{frames, frame_length_of}
 use Rattle.ctrl_codec.specs.declared.request.Request.{Request}
 use Rattle.ctrl_codec.specs.declared.request.Request.TheVariants.{SetStateBlob}
 use Rattle.ctrl_codec.specs.declared.request.RequestFault.{RequestFault}
+use Rattle.ctrl_codec.specs.Numbers.{data_place}
 use Rattle.ctrl_codec.specs.Requests.{requests}
 use Rattle.ctrl_codec.specs.Replies.{reply_spelling}
-use Rattle.ctrl_codec.specs.declared.codes.TheConstants.{DATA_PLACE}
 use Rattle.ctrl_client.specs.Desk.{Desk, Held, Turn, Obeys, closed_for, holding, response_to, ran, is_nil}
 
 -- the bytes of a channel: the part of a message that went to the emulator, and what came back and wasn't received
@@ -49,7 +49,7 @@ pub data Heard : Type 0 where
 
 -- the data of a request, in its bytes
 abbrev pub data_in : Request → List ℕ → List ℕ
-data_in (SetStateBlob flags type size) bytes = take size (drop DATA_PLACE bytes)
+data_in (SetStateBlob flags type size) bytes = take size (drop data_place bytes)
 data_in request bytes = []
 
 abbrev pub heard_by : Result (Result Request RequestFault) Missing → List ℕ → Option Heard

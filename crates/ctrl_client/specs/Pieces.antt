@@ -6,7 +6,7 @@ use Rattle.state_blobs.specs.Texts.{text_of, slice}
 use Rattle.state_blobs.specs.declared.words.Piece.{Piece}
 use Rattle.ctrl_client.specs.declared.fault.ClientFault.{ClientFault}
 use Rattle.ctrl_client.specs.declared.fault.ClientFault.TheVariants.{Link as LinkFault, Result as BadResult, Reply as BadReply}
-use Rattle.ctrl_client.specs.declared.profile.TheConstants.{SUCCESS, BAD_PARAMETER, BAD_ORDINAL, FLAGS_PLACE, TOTAL_PLACE, LENGTH_PLACE, GREATEST_BUFFER}
+use Rattle.ctrl_client.specs.Numbers.{success, bad_parameter, bad_ordinal, flags_place, total_place, length_place, greatest_buffer}
 use Rattle.ctrl_client.specs.Desk.{Desk, buffer_for}
 use Rattle.vt_base.specs.declared.words.Chan.TheVariants.{Ctrl}
 use Rattle.ctrl_client.specs.Link.{Link, at_hand, received}
@@ -29,10 +29,10 @@ is_misfit size left room = nat_lt left size || nat_lt room size || (size == 0 &&
 -- the piece that the fields tell, or the first of them that can't stand
 abbrev pub judged_fields : BlobFields → ℕ → ℕ → Result Piece ClientFault
 judged_fields f offset room =
-    if not (f.result == SUCCESS) then Err (BadResult f.result)
-    else (if not (f.flags == 0) then Err (BadReply FLAGS_PLACE)
-    else (if nat_lt f.total offset then Err (BadReply TOTAL_PLACE)
-    else (if is_misfit f.size (f.total - offset) room then Err (BadReply LENGTH_PLACE)
+    if not (f.result == success) then Err (BadResult f.result)
+    else (if not (f.flags == 0) then Err (BadReply flags_place)
+    else (if nat_lt f.total offset then Err (BadReply total_place)
+    else (if is_misfit f.size (f.total - offset) room then Err (BadReply length_place)
     else Ok (record { total = f.total; length = f.size }))))
 
 -- a piece that begins at this place of its blob, and has room
@@ -43,7 +43,7 @@ pub record IsPiece (offset room : ℕ) (p : Piece) : Type 0 where
 
 -- a field of the reply begins at this place
 abbrev pub IsPlace : ℕ → Type 0
-IsPlace place = (place ≡ FLAGS_PLACE) ⊎ ((place ≡ TOTAL_PLACE) ⊎ (place ≡ LENGTH_PLACE))
+IsPlace place = (place ≡ flags_place) ⊎ ((place ≡ total_place) ⊎ (place ≡ length_place))
 
 -- the fields of a reply that gives nothing of a blob
 abbrev pub refused_fields : ℕ → BlobFields
@@ -52,11 +52,11 @@ refused_fields result = record { result = result; flags = 0; total = 0; size = 0
 -- those of a reply that gives a piece of this blob, as long as the emulator gives one
 abbrev pub fields_at : List ℕ → ℕ → ℕ → BlobFields
 fields_at text offset most =
-    if nat_lt (length text) offset then refused_fields BAD_PARAMETER
-    else record { result = SUCCESS; flags = 0; total = length text; size = min most (length text - offset) }
+    if nat_lt (length text) offset then refused_fields bad_parameter
+    else record { result = success; flags = 0; total = length text; size = min most (length text - offset) }
 
 abbrev pub fields_of_tpm : Kind → ℕ → ℕ → Option TpmParts → BlobFields
-fields_of_tpm kind offset most None = refused_fields BAD_ORDINAL
+fields_of_tpm kind offset most None = refused_fields bad_ordinal
 fields_of_tpm kind offset most (Some t) = fields_at (text_of kind t) offset most
 
 -- the fields that the emulator's reply has
@@ -78,6 +78,13 @@ text_of_tpm kind (Some t) = text_of kind t
 abbrev pub bytes_given : Kind → ℕ → ℕ → Desk → List ℕ
 bytes_given kind offset room d = bytes_at (piece_given kind offset room d) (text_of_tpm kind d.tpm) offset
 
+-- whether bytes of a reply that isn't taken may wait: those of one that is malformed, and data that a refusal names
+abbrev pub leaves_bytes : Result Piece ClientFault → ℕ → Bool
+leaves_bytes (Ok p) size = false
+leaves_bytes (Err (BadReply place)) size = true
+leaves_bytes (Err (BadResult result)) size = nat_lt 0 size
+leaves_bytes (Err LinkFault) size = nat_lt 0 size
+
 -- a call for the request, one for the fixed fields, and one for data, if a piece with data is taken
 abbrev pub calls_for : Result Piece ClientFault → ℕ
 calls_for (Ok p) = if nat_lt 0 p.length then 3 else 2
@@ -96,6 +103,9 @@ pub record Fetches {P : Type 0} (fails : P → Bool) (later : P → P) (kind : K
   pub answer_is : answer ≡ (if fails_within fails later (calls_for (piece_given kind offset room l.desk)) plan then Err LinkFault else piece_given kind offset room l.desk)
   pub bytes : fails_within fails later (calls_for (piece_given kind offset room l.desk)) plan ≡ false
       → new ≡ bytes_given kind offset room l.desk ++ drop (length (bytes_given kind offset room l.desk)) old
+  -- also where the data was lost, the slice behind it is as it was; and all of it where the request or the fields were
+  pub rest : drop (length (bytes_given kind offset room l.desk)) new ≡ drop (length (bytes_given kind offset room l.desk)) old
+  pub untouched : fails_within fails later 2 plan ≡ true → new ≡ old
 
 -- by whether there is data: it was received over this link, or the call failed
 abbrev pub TakesData : {P : Type 0} → Bool → (P → Bool) → (P → P) → Piece → Link → P → Result Piece ClientFault → List ℕ → List ℕ → Option Link → P → Type 0
@@ -104,6 +114,7 @@ TakesData true fails later p m plan answer old new after plan_now =
     (answer ≡ (if fails plan then Err LinkFault else Ok p))
     × (fails plan ≡ false → new ≡ take p.length (at_hand Ctrl m) ++ drop p.length old)
     × (after ≡ Some (received (not (fails plan)) Ctrl p.length m)) × (plan_now ≡ later plan)
+    × (drop p.length new ≡ drop p.length old)
 
 -- ---- the size of the buffer
 
@@ -122,4 +133,4 @@ pub record Sizes {P : Type 0} (fails : P → Bool) (later : P → P) (size : ℕ
 -- a link that is quiet, to an emulator whose buffer is no larger than the profile's
 pub record IsSized (l : Link) : Type 0 where
   pub quiet : IsQuiet l
-  pub most : l.desk.buffer ≤ GREATEST_BUFFER
+  pub most : l.desk.buffer ≤ greatest_buffer

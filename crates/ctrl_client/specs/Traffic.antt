@@ -1,5 +1,5 @@
 -- What passes over wires that keep it, whatever is behind them, and the answers that it makes. (Own definitions.)
-use Rattle.std.specs.Prelude.{◌≡◌, ℕ, ◌<◌, ◌==◌, if◌then◌else◌, List, [], ◌∷◌, ◌++◌, map, length, take, drop, Option, option_map, Result, Ok, Err}
+use Rattle.std.specs.Prelude.{◌≡◌, ℕ, ◌<◌, ◌==◌, true, if◌then◌else◌, ◌⊎◌, List, [], ◌∷◌, ◌++◌, map, length, take, drop, Option, option_map, IfSome, Result, Ok, Err}
 use Rattle.std.specs.Int.{w32, from_be_bytes}
 use Rattle.vt_base.specs.declared.words.Chan.{Chan}
 use Rattle.vt_base.specs.declared.words.Chan.TheVariants.{Ctrl}
@@ -9,9 +9,10 @@ use Rattle.ctrl_codec.specs.declared.request.Request.{Request}
 use Rattle.ctrl_codec.specs.Requests.{spelling}
 use Rattle.ctrl_client.specs.declared.fault.ClientFault.{ClientFault}
 use Rattle.ctrl_client.specs.declared.fault.ClientFault.TheVariants.{Result as BadResult}
-use Rattle.ctrl_client.specs.declared.profile.TheConstants.{SUCCESS}
 use Rattle.ctrl_client.specs.Exchange.{judged_result}
-use Rattle.ctrl_client.specs.Pieces.{BlobFields, judged_fields}
+use Rattle.ctrl_client.specs.Numbers.{success, flags_place, total_place, length_place}
+use Rattle.ctrl_client.specs.Link.{Link, empty_lane}
+use Rattle.ctrl_client.specs.Pieces.{BlobFields, judged_fields, leaves_bytes}
 
 -- all bytes that were sent so far, and all that were received, each with its channel
 pub record Traffic : Type 0 where
@@ -67,7 +68,7 @@ pub record TellsResult (q : Request) (payload : List ℕ) (before after : Option
 
 -- what is answered for a result and a size
 abbrev pub judged_size : ℕ → ℕ → Result ℕ ClientFault
-judged_size result size = if result == SUCCESS then Ok size else Err (BadResult result)
+judged_size result size = if result == success then Ok size else Err (BadResult result)
 
 -- the answer is the size that stands in the sixteen bytes that came, or their result
 pub record TellsSize (q : Request) (before after : Option Traffic) (answer : Result ℕ ClientFault) : Type 0 where
@@ -78,17 +79,35 @@ pub record TellsSize (q : Request) (before after : Option Traffic) (answer : Res
 
 -- the fields in the sixteen bytes before the data
 abbrev pub fields_in : List ℕ → BlobFields
-fields_in fixed = record { result = number_at w32 0 fixed; flags = number_at w32 4 fixed; total = number_at w32 8 fixed; size = number_at w32 12 fixed }
+fields_in fixed = record { result = number_at w32 0 fixed; flags = number_at w32 flags_place fixed; total = number_at w32 total_place fixed; size = number_at w32 length_place fixed }
 
 -- how many bytes of data come with an answer
 abbrev pub data_size : Result Piece ClientFault → ℕ
 data_size (Ok p) = p.length
 data_size (Err fault) = 0
 
--- the answer is what the fields that came say, and the data that came stands in front of the rest of the slice
-pub record TellsPiece (q : Request) (offset : ℕ) (before after : Option Traffic) (old new : List ℕ) (answer : Result Piece ClientFault) : Type 0 where
+-- The answer is what the fields that came say, and the data that came is in front of the rest of the slice. Bytes that
+-- a refused reply may have left on the control channel are forgotten.
+pub record TellsPiece (q : Request) (offset : ℕ) (before after : Option Traffic) (link : Option Link) (old new : List ℕ) (answer : Result Piece ClientFault) : Type 0 where
   pub fixed : List ℕ
   pub size : length fixed ≡ 16
   pub passed : Passed q [] (fixed ++ take (data_size answer) new) before after
   pub answer_is : answer ≡ judged_fields (fields_in fixed) offset (length old)
   pub rest : drop (data_size answer) new ≡ drop (data_size answer) old
+  pub forgotten : leaves_bytes answer (fields_in fixed).size ≡ true → IfSome link (λ l. l.control ≡ empty_lane)
+
+-- The data of a piece was lost: the fields came and tell the piece, and then fewer bytes of it than it has. Those are in
+-- front, and the slice behind the piece is as it was. Between them the wires may have left anything.
+pub record LosesData (q : Request) (offset : ℕ) (before after : Option Traffic) (old new : List ℕ) : Type 0 where
+  pub fixed : List ℕ
+  pub size : length fixed ≡ 16
+  pub piece : Piece
+  pub piece_is : judged_fields (fields_in fixed) offset (length old) ≡ Ok piece
+  pub count : ℕ
+  pub fewer : count < piece.length
+  pub passed : Passed q [] (fixed ++ take count new) before after
+  pub rest : drop piece.length new ≡ drop piece.length old
+
+-- what a fault of the wires leaves of a slice: all of it, where the request or the fields were lost
+abbrev pub LeavesSlice : Request → ℕ → Option Traffic → Option Traffic → List ℕ → List ℕ → Type 0
+LeavesSlice q offset before after old new = (new ≡ old) ⊎ LosesData q offset before after old new

@@ -10,7 +10,7 @@ pub enum ClientFault {
     /// The emulator refused the request with this result, which isn't 0.
     #[error("the emulator answered result {0}")]
     Result(u32),
-    /// The field of the reply that begins at this byte, counted from 0, can't stand there. The channel was cut.
+    /// The field of the reply that begins at this byte, counted from 0, can't stand there. The control channel was cut.
     #[error("the reply of the emulator is malformed at byte {0}")]
     Reply(u32),
 }

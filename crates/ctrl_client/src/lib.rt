@@ -26,11 +26,12 @@
 //! The wires are left to the caller: [`Wires`] says what a send, a receive and a cut have to do. Where a send fails the
 //! emulator never saw the request; where a receive fails it obeyed it, and the reply is lost. [`ClientFault::Link`] doesn't
 //! say which: where it matters whether the request was obeyed, ask the emulator. Nothing is sent twice here. Where
-//! [`get_piece`] answers another fault, the control channel is cut, so that no byte of that reply is taken for the next.
+//! [`get_piece`] refuses a reply of which more bytes may come, it cuts the control channel, or they were the next reply.
 #![tactic(auto)]
 
 mod client;
 mod fault;
+pub mod laws;
 mod pieces;
 mod profile;
 mod whole;

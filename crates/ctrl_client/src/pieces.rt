@@ -1,12 +1,12 @@
 //! A piece of a blob, and the size of the buffer.
-ghost use Rattle.std.specs.Prelude.{◌≡◌, ◌≢◌, ◌≤◌, ℕ, length, take, drop, nat_lt, Err, IfOk, IfErr, IfSome, OnOk};
+ghost use Rattle.std.specs.Prelude.{◌≡◌, ◌≢◌, ◌≤◌, ℕ, length, take, drop, nat_lt, if◌then◌else◌, Err, IfOk, IfErr, IfSome, OnOk, OnErr, option_map};
 ghost use Rattle.tpm_frame.specs.Frame.{number_at};
 ghost use Rattle.std.specs.Int.{w32};
 ghost use Rattle.ctrl_client.specs.Desk.{type_of};
-ghost use Rattle.ctrl_client.specs.Link.{empty_lane, at_hand};
-ghost use Rattle.ctrl_client.specs.Pieces.{judged_fields, IsPiece, IsPlace, HasField, Fetches, TakesData, IsSized, Sizes};
+ghost use Rattle.ctrl_client.specs.Link.{empty_lane, at_hand, cut};
+ghost use Rattle.ctrl_client.specs.Pieces.{judged_fields, leaves_bytes, IsPiece, IsPlace, HasField, Fetches, TakesData, IsSized, Sizes};
 ghost use Rattle.ctrl_client.specs.Exchange.{CountsLink};
-ghost use Rattle.ctrl_client.specs.Traffic.{Came, fields_in, TellsPiece, TellsSize};
+ghost use Rattle.ctrl_client.specs.Traffic.{Came, CamePart, fields_in, TellsPiece, LeavesSlice, TellsSize};
 
 use crate::client::{exchange, type_of};
 use crate::fault::ClientFault;
@@ -75,6 +75,11 @@ impl Fields {
 
 /// Asks for a piece of a blob, from this place on, and puts its bytes in front of `into`. The emulator says how long a piece
 /// is; one that is longer than `into`, or has none of the bytes that are left, is answered as a reply that can't stand.
+///
+/// The bytes of `into` behind the piece stay as they were, and with a refusal all of them do. After `Link` the bytes that
+/// were received before the fault are in front, and the rest of the piece's place may hold anything. After `Reply`, and after
+/// `Result` where the reply says that data follows it, the control channel is cut: those bytes must not be read as the
+/// next reply. After a `Result` with no data there is nothing to forget, and the channel isn't cut.
 pub fn get_piece<W: Wires>(
     wires: &mut W,
     kind: Kind,
@@ -87,7 +92,10 @@ pub fn get_piece<W: Wires>(
         → Fetches W.fails W.later kind offset (length into.old) l (W.plan wires.old) result into.old into.new (W.link wires.new) (W.plan wires.new)) }
 
     // Over any wires.
-    ensures reply { result ≢ Err ClientFault.Link → TellsPiece (Request.GetStateBlob 0 (type_of kind) offset) offset (W.traffic wires.old) (W.traffic wires.new) into.old into.new result }
+    ensures reply { result ≢ Err ClientFault.Link
+        → TellsPiece (Request.GetStateBlob 0 (type_of kind) offset) offset (W.traffic wires.old) (W.traffic wires.new) (W.link wires.new) into.old into.new result }
+    ensures slice { result ≡ Err ClientFault.Link
+        → LeavesSlice (Request.GetStateBlob 0 (type_of kind) offset) offset (W.traffic wires.old) (W.traffic wires.new) into.old into.new }
     ensures piece { IfOk result (IsPiece offset (length into.old)) }
     ensures counts { CountsLink (W.faults wires.old) (W.faults wires.new) result }
     ensures refused { (number : ℕ) → result ≡ Err (ClientFault.Result number) → number ≢ 0 }
@@ -105,13 +113,29 @@ pub fn get_piece<W: Wires>(
     if exchange(wires, &request, &[], &mut fixed).is_err() {
         return Err(ClientFault::Link);
     }
-    let judged = Fields::read(&fixed).judge(offset, into.len());
-    match judged {
+    let fields = Fields::read(&fixed);
+    match fields.judge(offset, into.len()) {
         Ok(piece) => receive_data(wires, piece, into),
         Err(fault) => {
-            wires.cut(Chan::Ctrl);
+            forget_rest(wires, fault, &fields);
             Err(fault)
         }
+    }
+}
+
+// Cuts the control channel where more bytes of a reply may come whose fields were refused.
+fn forget_rest<W: Wires>(wires: &mut W, fault: ClientFault, fields: &Fields)
+    ensures link { W.link wires.new ≡ (if leaves_bytes (Err fault) fields.now.size then option_map (cut Chan.Ctrl) (W.link wires.old) else W.link wires.old) }
+    ensures plan { IfSome (W.link wires.old) (λ _. W.plan wires.new ≡ W.plan wires.old) }
+    ensures traffic { W.traffic wires.new ≡ W.traffic wires.old }
+    ensures faults { W.faults wires.new ≡ W.faults wires.old }
+{
+    let is_malformed = match fault {
+        ClientFault::Reply(_) => true,
+        ClientFault::Result(_) | ClientFault::Link => false,
+    };
+    if is_malformed || fields.length > 0 {
+        wires.cut(Chan::Ctrl);
     }
 }
 
@@ -126,7 +150,9 @@ fn receive_data<W: Wires>(
         → TakesData (nat_lt 0 piece.length) W.fails W.later piece m (W.plan wires.old) result into.old into.new (W.link wires.new) (W.plan wires.new)) }
     ensures piece { IfOk result (λ p. p ≡ piece) }
     ensures came { OnOk result (Came Chan.Ctrl (take piece.length into.new) (W.traffic wires.old) (W.traffic wires.new)) }
-    ensures rest { OnOk result (drop piece.length into.new ≡ drop piece.length into.old) }
+    ensures part { OnErr result (CamePart Chan.Ctrl (take piece.length into.new) (W.traffic wires.old) (W.traffic wires.new)) }
+    ensures rest { drop piece.length into.new ≡ drop piece.length into.old }
+    ensures size { length into.new ≡ length into.old }
     ensures fault { IfErr result (λ fault. fault ≡ ClientFault.Link) }
     ensures counts { CountsLink (W.faults wires.old) (W.faults wires.new) result }
 {

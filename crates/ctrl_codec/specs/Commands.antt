@@ -2,23 +2,22 @@
 use Rattle.std.specs.Prelude.{ℕ, ◌==◌, List, [], ◌∷◌, Option, find}
 use Rattle.ctrl_codec.specs.declared.command.Command.{Command}
 use Rattle.ctrl_codec.specs.declared.command.Command.TheVariants.{GetCapability, Init, Shutdown, GetEstablished, SetLocality, CancelCommand, StoreVolatile, ResetEstablished, GetStateBlob, SetStateBlob, Stop, GetConfig, SetBufferSize}
-use Rattle.ctrl_codec.specs.declared.codes.TheConstants.{GET_CAPABILITY, INIT, SHUTDOWN, GET_TPMESTABLISHED, SET_LOCALITY, CANCEL_TPM_CMD, STORE_VOLATILE, RESET_TPMESTABLISHED, GET_STATEBLOB, SET_STATEBLOB, STOP, GET_CONFIG, SET_BUFFERSIZE}
 
 -- the code of a command
 abbrev pub code_of : Command → ℕ
-code_of GetCapability = GET_CAPABILITY
-code_of Init = INIT
-code_of Shutdown = SHUTDOWN
-code_of GetEstablished = GET_TPMESTABLISHED
-code_of SetLocality = SET_LOCALITY
-code_of CancelCommand = CANCEL_TPM_CMD
-code_of StoreVolatile = STORE_VOLATILE
-code_of ResetEstablished = RESET_TPMESTABLISHED
-code_of GetStateBlob = GET_STATEBLOB
-code_of SetStateBlob = SET_STATEBLOB
-code_of Stop = STOP
-code_of GetConfig = GET_CONFIG
-code_of SetBufferSize = SET_BUFFERSIZE
+code_of GetCapability = 1
+code_of Init = 2
+code_of Shutdown = 3
+code_of GetEstablished = 4
+code_of SetLocality = 5
+code_of CancelCommand = 9
+code_of StoreVolatile = 10
+code_of ResetEstablished = 11
+code_of GetStateBlob = 12
+code_of SetStateBlob = 13
+code_of Stop = 14
+code_of GetConfig = 15
+code_of SetBufferSize = 17
 
 -- the profile
 abbrev pub commands : List Command

@@ -2,7 +2,6 @@
 use Rattle.std.specs.Prelude.{◌≡◌, ℕ, List, [], ◌++◌, length, take, drop, true, false, Result, Ok, Err, ⊤}
 use Rattle.vt_base.specs.Numbers.{IsBytes}
 use Rattle.vt_base.specs.Layout.{Layout, Spells, IsOpen}
-use Rattle.ctrl_codec.specs.declared.codes.TheConstants.{DATA_PLACE}
 use Rattle.ctrl_codec.specs.declared.fed.Fed.{Fed}
 use Rattle.ctrl_codec.specs.declared.fed.Fed.TheVariants.{More, Whole, Refused, Failed}
 use Rattle.ctrl_codec.specs.Reading.{Reading}
@@ -22,6 +21,6 @@ IsTold layout old piece used Failed = ⊤
 -- what is held after an answer
 abbrev pub IsLeft : {V F : Type 0} → Reading → List ℕ → ℕ → Fed V F → Reading → Type 0
 IsLeft old piece used More new = (old.failed ≡ false) × (used ≡ length piece) × (new ≡ record old { begun = old.begun ++ piece })
-IsLeft old piece used (Whole v) new = (old.failed ≡ false) × (new ≡ record old { begun = []; payload = drop DATA_PLACE (old.begun ++ take used piece) })
+IsLeft old piece used (Whole v) new = (old.failed ≡ false) × (new ≡ record old { begun = []; payload = drop 16 (old.begun ++ take used piece) })
 IsLeft old piece used (Refused f) new = (old.failed ≡ false) × (new ≡ record old { begun = []; failed = true })
 IsLeft old piece used Failed new = (old.failed ≡ true) × (used ≡ 0) × (new ≡ old)

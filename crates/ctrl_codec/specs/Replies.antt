@@ -2,7 +2,7 @@
 use Rattle.std.specs.Prelude.{◌≡◌, ◌≢◌, ℕ, ◌-◌, ◌≤◌, ◌<◌, ◌^◌, ◌==◌, List, [], ◌∷◌, ◌++◌, length, replicate, nat_lt, if◌then◌else◌, Result, Ok, Err, ⊤}
 use Rattle.vt_base.specs.Numbers.{number, long}
 use Rattle.vt_base.specs.Layout.{Layout, Ends, Field, byte_then, number_then, long_then}
-use Rattle.ctrl_codec.specs.declared.codes.TheConstants.{LARGEST_DATA, FIRST_ZERO, SECOND_ZERO, THIRD_ZERO}
+use Rattle.ctrl_codec.specs.Numbers.{largest_data}
 use Rattle.ctrl_codec.specs.declared.command.Command.{Command}
 use Rattle.ctrl_codec.specs.declared.command.Command.TheVariants.{GetCapability, Init, Shutdown, GetEstablished, SetLocality, CancelCommand, StoreVolatile, ResetEstablished, GetStateBlob, SetStateBlob, Stop, GetConfig, SetBufferSize}
 use Rattle.ctrl_codec.specs.declared.reply.Reply.{Reply}
@@ -23,7 +23,7 @@ reply_spelling (reply.Buffer result size least greatest) payload = number result
 
 -- the data that goes with a reply
 abbrev pub ReplyHasData : Reply → List ℕ → Type 0
-ReplyHasData (reply.Blob result flags total len) payload = (length payload ≡ len) × (len ≤ LARGEST_DATA)
+ReplyHasData (reply.Blob result flags total len) payload = (length payload ≡ len) × (len ≤ largest_data)
 ReplyHasData r payload = payload ≡ []
 
 -- its numbers are those of its types
@@ -68,9 +68,9 @@ pub record IsNotZeroAt (place : ℕ) (bytes : List ℕ) : Type 0 where
   pub bit_fits : bit < 2 ^ 8
   pub other_fits : other < 2 ^ 8
   pub other_is : other ≢ 0
-  pub from_first : FIRST_ZERO ≤ place
-  pub to_third : place ≤ THIRD_ZERO
-  pub spelled : bytes ≡ number result ++ bit ∷ replicate (place - FIRST_ZERO) 0 ++ other ∷ []
+  pub from_first : 5 ≤ place
+  pub to_third : place ≤ 7
+  pub spelled : bytes ≡ number result ++ bit ∷ replicate (place - 5) 0 ++ other ∷ []
 
 -- The fourth field is this length, above the limit, and the last of these bytes.
 pub record IsTooLong (len : ℕ) (bytes : List ℕ) : Type 0 where
@@ -81,7 +81,7 @@ pub record IsTooLong (len : ℕ) (bytes : List ℕ) : Type 0 where
   pub flags_fit : flags < 2 ^ 32
   pub total_fits : total < 2 ^ 32
   pub len_fits : len < 2 ^ 32
-  pub above : LARGEST_DATA < len
+  pub above : largest_data < len
   pub spelled : bytes ≡ number result ++ number flags ++ number total ++ number len
 
 -- These bytes end with the field for which no reply to the command begins so. Two commands have such a field.
@@ -105,11 +105,11 @@ zero_then place next = byte_then (λ b. if b == 0 then next else Ends (Err (Valu
 
 abbrev pub established : Layout ReplyEnding
 established = number_then (λ result. byte_then (λ bit.
-    zero_then FIRST_ZERO (zero_then SECOND_ZERO (zero_then THIRD_ZERO (told (reply.Established result bit))))))
+    zero_then 5 (zero_then 6 (zero_then 7 (told (reply.Established result bit))))))
 
 abbrev pub blob : Layout ReplyEnding
 blob = number_then (λ result. number_then (λ flags. number_then (λ total. number_then (λ len.
-    if nat_lt LARGEST_DATA len then Ends (Err (Length len)) else Field len (λ payload. told (reply.Blob result flags total len))))))
+    if nat_lt largest_data len then Ends (Err (Length len)) else Field len (λ payload. told (reply.Blob result flags total len))))))
 
 -- the replies to a command
 unfoldable pub replies_to : Command → Layout ReplyEnding

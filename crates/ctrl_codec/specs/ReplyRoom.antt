@@ -5,7 +5,7 @@ use Rattle.std.specs.Int.{from_be_bytes, w32}
 use Rattle.std.proofs.lemmas.Bool.{ltb-false}
 use Rattle.vt_base.specs.Layout.{Layout, Ends, IsWithin}
 use Rattle.vt_base.specs.Within.{either_within}
-use Rattle.ctrl_codec.specs.declared.codes.TheConstants.{LARGEST_DATA, LARGEST_MESSAGE, FIRST_ZERO, SECOND_ZERO, THIRD_ZERO}
+use Rattle.ctrl_codec.specs.Numbers.{largest_message}
 use Rattle.ctrl_codec.specs.declared.command.Command.{Command}
 use Rattle.ctrl_codec.specs.declared.command.Command.TheVariants.{GetCapability, GetEstablished, GetStateBlob, GetConfig, SetBufferSize}
 use Rattle.ctrl_codec.specs.declared.reply.ReplyFault.TheVariants.{Value}
@@ -15,11 +15,11 @@ zero_within : (place : ℕ) (next : Layout ReplyEnding) (room : ℕ) → 1 ≤ r
 zero_within place next room le h = (le, λ b. either_within (eqb (slice_index b 0) 0) next (Ends (Err (Value place))) (room - 1) (λ _. h) (λ _. tt))
 
 -- No reply has more bytes than there is room for.
-pub replies_within : (c : Command) → IsWithin (replies_to c) LARGEST_MESSAGE
+pub replies_within : (c : Command) → IsWithin (replies_to c) largest_message
 unfolding replies_to
 replies_within GetCapability = (lit≤ tt, λ _. tt)
-replies_within GetEstablished = (lit≤ tt, λ _. (lit≤ tt, λ _. zero_within FIRST_ZERO _ 4107 (lit≤ tt) (zero_within SECOND_ZERO _ 4106 (lit≤ tt) (zero_within THIRD_ZERO _ 4105 (lit≤ tt) tt))))
-replies_within GetStateBlob = (lit≤ tt, λ _. (lit≤ tt, λ _. (lit≤ tt, λ _. (lit≤ tt, λ len. either_within (nat_lt LARGEST_DATA (from_be_bytes w32 len)) _ _ LARGEST_DATA (λ _. tt) (λ fits. (ltb-false _ _ fits, λ _. tt))))))
+replies_within GetEstablished = (lit≤ tt, λ _. (lit≤ tt, λ _. zero_within 5 _ 4107 (lit≤ tt) (zero_within 6 _ 4106 (lit≤ tt) (zero_within 7 _ 4105 (lit≤ tt) tt))))
+replies_within GetStateBlob = (lit≤ tt, λ _. (lit≤ tt, λ _. (lit≤ tt, λ _. (lit≤ tt, λ len. either_within (nat_lt 4096 (from_be_bytes w32 len)) _ _ 4096 (λ _. tt) (λ fits. (ltb-false _ _ fits, λ _. tt))))))
 replies_within GetConfig = (lit≤ tt, λ _. (lit≤ tt, λ _. tt))
 replies_within SetBufferSize = (lit≤ tt, λ _. (lit≤ tt, λ _. (lit≤ tt, λ _. (lit≤ tt, λ _. tt))))
 replies_within c = (lit≤ tt, λ _. tt)

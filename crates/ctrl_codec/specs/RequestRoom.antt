@@ -5,7 +5,7 @@ use Rattle.std.specs.Int.{from_be_bytes, w32}
 use Rattle.std.proofs.lemmas.Bool.{ltb-false}
 use Rattle.vt_base.specs.Layout.{IsWithin}
 use Rattle.vt_base.specs.Within.{either_within}
-use Rattle.ctrl_codec.specs.declared.codes.TheConstants.{LARGEST_DATA, LARGEST_MESSAGE}
+use Rattle.ctrl_codec.specs.Numbers.{largest_message}
 use Rattle.ctrl_codec.specs.declared.command.Command.{Command}
 use Rattle.ctrl_codec.specs.declared.command.Command.TheVariants.{GetCapability, Init, Shutdown, GetEstablished, SetLocality, CancelCommand, StoreVolatile, ResetEstablished, GetStateBlob, SetStateBlob, Stop, GetConfig, SetBufferSize}
 use Rattle.ctrl_codec.specs.Commands.{command_at}
@@ -21,7 +21,7 @@ body_within CancelCommand = tt
 body_within StoreVolatile = tt
 body_within ResetEstablished = (lit≤ tt, λ _. (lit≤ tt, λ _. tt))
 body_within GetStateBlob = (lit≤ tt, λ _. (lit≤ tt, λ _. (lit≤ tt, λ _. tt)))
-body_within SetStateBlob = (lit≤ tt, λ flags. (lit≤ tt, λ kind. (lit≤ tt, λ len. either_within (nat_lt LARGEST_DATA (from_be_bytes w32 len)) _ _ LARGEST_DATA (λ _. tt) (λ fits. (ltb-false _ _ fits, λ _. tt)))))
+body_within SetStateBlob = (lit≤ tt, λ flags. (lit≤ tt, λ kind. (lit≤ tt, λ len. either_within (nat_lt 4096 (from_be_bytes w32 len)) _ _ 4096 (λ _. tt) (λ fits. (ltb-false _ _ fits, λ _. tt)))))
 body_within Stop = tt
 body_within GetConfig = tt
 body_within SetBufferSize = (lit≤ tt, λ _. tt)
@@ -31,6 +31,6 @@ body_at_within code None = tt
 body_at_within code (Some c) = body_within c
 
 -- No request has more bytes than there is room for.
-pub requests_within : IsWithin requests LARGEST_MESSAGE
+pub requests_within : IsWithin requests largest_message
 unfolding requests
 requests_within = (lit≤ tt, λ code. body_at_within (from_be_bytes w32 code) (command_at (from_be_bytes w32 code)))

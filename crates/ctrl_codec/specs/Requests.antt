@@ -2,14 +2,14 @@
 use Rattle.std.specs.Prelude.{◌≡◌, ℕ, ◌≤◌, ◌<◌, ◌^◌, List, [], ◌∷◌, ◌++◌, length, nat_lt, if◌then◌else◌, Option, Some, None, Result, Ok, Err}
 use Rattle.vt_base.specs.Numbers.{number}
 use Rattle.vt_base.specs.Layout.{Layout, Ends, Field, byte_then, number_then}
-use Rattle.ctrl_codec.specs.declared.codes.TheConstants.{GET_CAPABILITY, INIT, SHUTDOWN, GET_TPMESTABLISHED, SET_LOCALITY, CANCEL_TPM_CMD, STORE_VOLATILE, RESET_TPMESTABLISHED, GET_STATEBLOB, SET_STATEBLOB, STOP, GET_CONFIG, SET_BUFFERSIZE, LARGEST_DATA}
 use Rattle.ctrl_codec.specs.declared.command.Command.{Command}
 use Rattle.ctrl_codec.specs.declared.command.Command.TheVariants as command
 use Rattle.ctrl_codec.specs.declared.request.Request.{Request}
 use Rattle.ctrl_codec.specs.declared.request.Request.TheVariants.{GetCapability, Init, Shutdown, GetEstablished, SetLocality, CancelCommand, StoreVolatile, ResetEstablished, GetStateBlob, SetStateBlob, Stop, GetConfig, SetBufferSize}
 use Rattle.ctrl_codec.specs.declared.request.RequestFault.{RequestFault}
 use Rattle.ctrl_codec.specs.declared.request.RequestFault.TheVariants.{Code, Length}
-use Rattle.ctrl_codec.specs.Commands.{command_at}
+use Rattle.ctrl_codec.specs.Commands.{code_of, command_at}
+use Rattle.ctrl_codec.specs.Numbers.{largest_data}
 
 -- the command of a request
 abbrev pub command_of : Request → Command
@@ -31,23 +31,23 @@ command_of (SetBufferSize size) = command.SetBufferSize
 
 -- a request, the three bytes that nobody looks at, where it has them, and its data
 abbrev pub spelling : Request → List ℕ → List ℕ → List ℕ
-spelling GetCapability ignored payload = number GET_CAPABILITY
-spelling (Init flags) ignored payload = number INIT ++ number flags
-spelling Shutdown ignored payload = number SHUTDOWN
-spelling GetEstablished ignored payload = number GET_TPMESTABLISHED
-spelling (SetLocality locality) ignored payload = number SET_LOCALITY ++ locality ∷ ignored
-spelling CancelCommand ignored payload = number CANCEL_TPM_CMD
-spelling StoreVolatile ignored payload = number STORE_VOLATILE
-spelling (ResetEstablished locality) ignored payload = number RESET_TPMESTABLISHED ++ locality ∷ ignored
-spelling (GetStateBlob flags kind offset) ignored payload = number GET_STATEBLOB ++ number flags ++ number kind ++ number offset
-spelling (SetStateBlob flags kind len) ignored payload = number SET_STATEBLOB ++ number flags ++ number kind ++ number len ++ payload
-spelling Stop ignored payload = number STOP
-spelling GetConfig ignored payload = number GET_CONFIG
-spelling (SetBufferSize size) ignored payload = number SET_BUFFERSIZE ++ number size
+spelling GetCapability ignored payload = number (code_of command.GetCapability)
+spelling (Init flags) ignored payload = number (code_of command.Init) ++ number flags
+spelling Shutdown ignored payload = number (code_of command.Shutdown)
+spelling GetEstablished ignored payload = number (code_of command.GetEstablished)
+spelling (SetLocality locality) ignored payload = number (code_of command.SetLocality) ++ locality ∷ ignored
+spelling CancelCommand ignored payload = number (code_of command.CancelCommand)
+spelling StoreVolatile ignored payload = number (code_of command.StoreVolatile)
+spelling (ResetEstablished locality) ignored payload = number (code_of command.ResetEstablished) ++ locality ∷ ignored
+spelling (GetStateBlob flags kind offset) ignored payload = number (code_of command.GetStateBlob) ++ number flags ++ number kind ++ number offset
+spelling (SetStateBlob flags kind len) ignored payload = number (code_of command.SetStateBlob) ++ number flags ++ number kind ++ number len ++ payload
+spelling Stop ignored payload = number (code_of command.Stop)
+spelling GetConfig ignored payload = number (code_of command.GetConfig)
+spelling (SetBufferSize size) ignored payload = number (code_of command.SetBufferSize) ++ number size
 
 -- the data that goes with a request
 abbrev pub HasData : Request → List ℕ → Type 0
-HasData (SetStateBlob flags kind len) payload = (length payload ≡ len) × (len ≤ LARGEST_DATA)
+HasData (SetStateBlob flags kind len) payload = (length payload ≡ len) × (len ≤ largest_data)
 HasData q payload = payload ≡ []
 
 -- its numbers are those of its types
@@ -69,8 +69,8 @@ pub record Asks (q : Request) (payload bytes : List ℕ) : Type 0 where
 -- These bytes end with the field for which they are refused: a code outside the profile, or a length above the limit.
 abbrev pub Refuses : RequestFault → List ℕ → Type 0
 Refuses (Code code) bytes = (code < 2 ^ 32) × (command_at code ≡ None) × (bytes ≡ number code)
-Refuses (Length len) bytes = (len < 2 ^ 32) × (LARGEST_DATA < len) × (flags : ℕ) × (kind : ℕ) × (flags < 2 ^ 32) × (kind < 2 ^ 32)
-    × (bytes ≡ number SET_STATEBLOB ++ number flags ++ number kind ++ number len)
+Refuses (Length len) bytes = (len < 2 ^ 32) × (largest_data < len) × (flags : ℕ) × (kind : ℕ) × (flags < 2 ^ 32) × (kind < 2 ^ 32)
+    × (bytes ≡ number (code_of command.SetStateBlob) ++ number flags ++ number kind ++ number len)
 
 -- ---- the same, told from the left
 
@@ -97,7 +97,7 @@ body_of command.StoreVolatile = whole StoreVolatile
 body_of command.ResetEstablished = locality_then (λ locality. whole (ResetEstablished locality))
 body_of command.GetStateBlob = number_then (λ flags. number_then (λ kind. number_then (λ offset. whole (GetStateBlob flags kind offset))))
 body_of command.SetStateBlob = number_then (λ flags. number_then (λ kind. number_then (λ len.
-    if nat_lt LARGEST_DATA len then Ends (Err (Length len)) else Field len (λ payload. whole (SetStateBlob flags kind len)))))
+    if nat_lt largest_data len then Ends (Err (Length len)) else Field len (λ payload. whole (SetStateBlob flags kind len)))))
 body_of command.Stop = whole Stop
 body_of command.GetConfig = whole GetConfig
 body_of command.SetBufferSize = number_then (λ size. whole (SetBufferSize size))

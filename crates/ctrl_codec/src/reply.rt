@@ -1,3 +1,6 @@
+// Replies to control requests.
+use std::fmt;
+
 /// A reply to a control request, without the data that goes with it. The bodies are our own.
 #[derive(Clone, Copy, Debug, PartialEq, Eq)]
 pub enum Reply {
@@ -43,4 +46,16 @@ pub enum ReplyFault {
     Length(u32),
     /// The byte at this place, counted from 0, has to be 0 and isn't.
     Value(u32),
+}
+
+impl fmt::Display for ReplyFault {
+    fn fmt<W: fmt::Write>(&self, f: &mut fmt::Formatter<W>) -> fmt::Result {
+        match self {
+            ReplyFault::Length(length) => write!(
+                f,
+                "a reply with {length} bytes of data is too long"
+            ),
+            ReplyFault::Value(place) => write!(f, "byte {place} of the reply has to be 0"),
+        }
+    }
 }

@@ -2,6 +2,7 @@
 ghost use Rattle.std.specs.Prelude.{◌≡◌};
 
 use crate::command::Command;
+use std::fmt;
 
 /// A control request, without the data that goes with it. The commands are swtpm's, the bodies our own.
 #[derive(Clone, Copy, Debug, PartialEq, Eq)]
@@ -66,4 +67,16 @@ pub enum RequestFault {
     Code(u32),
     /// The data would have so many bytes, more than 4096.
     Length(u32),
+}
+
+impl fmt::Display for RequestFault {
+    fn fmt<W: fmt::Write>(&self, f: &mut fmt::Formatter<W>) -> fmt::Result {
+        match self {
+            RequestFault::Code(code) => write!(f, "no request has the code {code}"),
+            RequestFault::Length(length) => write!(
+                f,
+                "a request with {length} bytes of data is too long"
+            ),
+        }
+    }
 }

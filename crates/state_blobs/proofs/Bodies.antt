@@ -21,7 +21,7 @@ use Rattle.tpm_core.specs.declared.parts.SavedParts.{SavedParts}
 use Rattle.tpm_core.specs.declared.parts.TpmParts.{TpmParts}
 use Rattle.tpm_core.specs.Banks.{blank_bank}
 use Rattle.tpm_core.specs.Steps.{IsFit, IsKept}
-use Rattle.state_blobs.specs.declared.format.TheConstants.{VERSION}
+use Rattle.state_blobs.specs.Numbers.{version}
 use Rattle.state_blobs.specs.Texts.{magic_of, with_header, counted, volatile_body, saved_body, body_of, text_of, IsBlob, is_length, flag_fits}
 use Rattle.state_blobs.specs.Blobs.{body_then, after_magic, blob}
 use Rattle.vt_base.proofs.Marks.{mark_spells, marks_spell}
@@ -54,8 +54,8 @@ body_spells kind (flag ∷ rest) is =
 pub body_is_told : (kind : Kind) (body : List ℕ) → IsBody kind body → Spells (blob kind) (Ok tt) (with_header kind body)
 unfolding blob
 body_is_told kind body is =
-    marks_spell (magic_of kind) 0 (after_magic kind) (Ok tt) (VERSION ∷ number (length body) ++ body)
-    (mark_spells VERSION Version 4 (number_then (λ count. cond (is_length kind count) (body_then kind count) (refuse Length 5))) (Ok tt) (number (length body) ++ body)
+    marks_spell (magic_of kind) 0 (after_magic kind) (Ok tt) (version ∷ number (length body) ++ body)
+    (mark_spells version Version 4 (number_then (λ count. cond (is_length kind count) (body_then kind count) (refuse Length 5))) (Ok tt) (number (length body) ++ body)
     (spells_number (λ count. cond (is_length kind count) (body_then kind count) (refuse Length 5)) (Ok tt) (length body) body (omega (arith, (length_small kind (length body) is.sized).1)) (body_spells kind body is)))
 
 bodied : (kind : Kind) (count : ℕ) (body : List ℕ) → is_length kind count ≡ true → Spells (body_then kind count) (Ok tt) body → IsBody kind body × (length body ≡ count)
@@ -78,10 +78,10 @@ told_is_body kind bytes fits spelled =
     elim (marks_cases (magic_of kind) 0 (after_magic kind) (Ok tt) bytes spelled) [
       | inr (i, first, ends) ↦ absurd (cc (ends))
       | inl (rest, is, then) ↦
-          elim (mark_cases VERSION Version 4 (number_then (λ count. cond (is_length kind count) (body_then kind count) (refuse Length 5))) (Ok tt) rest then) [
+          elim (mark_cases version Version 4 (number_then (λ count. cond (is_length kind count) (body_then kind count) (refuse Length 5))) (Ok tt) rest then) [
             | inr (other, differs, was, ends) ↦ absurd (cc (ends))
             | inl (more, are, counted) ↦
-                let parts : bytes ≡ magic_of kind ++ VERSION ∷ more = is ∙ ap (λ (r : List ℕ). magic_of kind ++ r) are in
+                let parts : bytes ≡ magic_of kind ++ version ∷ more = is ∙ ap (λ (r : List ℕ). magic_of kind ++ r) are in
                 let f = number_front (λ count. cond (is_length kind count) (body_then kind count) (refuse Length 5)) (Ok tt) more (subst IsBytes (ap (drop 5) parts) (IsBytes-drop 5 bytes fits)) counted in
                 let p = passed (is_length kind f.value) (body_then kind f.value) (malformed Length 5) tt f.rest f.spelled in
                 let b = bodied kind f.value f.rest p.0 p.1 in
@@ -90,7 +90,7 @@ told_is_body kind bytes fits spelled =
                   body = f.rest;
                   is_body = b.0;
                   fits = f.fits;
-                  parts = parts ∙ ap (λ (r : List ℕ). magic_of kind ++ VERSION ∷ r) (f.parts ∙ ap (λ (n : List ℕ). n ++ f.rest) number_is);
+                  parts = parts ∙ ap (λ (r : List ℕ). magic_of kind ++ version ∷ r) (f.parts ∙ ap (λ (n : List ℕ). n ++ f.rest) number_is);
                 }
           ]
     ]

@@ -9,3 +9,4 @@ pub mod Joined
 pub mod Once
 pub mod Apart
 pub mod Marked
+pub mod Sizes

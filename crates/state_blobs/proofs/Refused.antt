@@ -12,7 +12,7 @@ use Rattle.vt_base.specs.declared.words.Kind.{Kind}
 use Rattle.vt_base.specs.declared.words.Why.{Why}
 use Rattle.vt_base.specs.declared.words.Why.TheVariants.{Magic, Version, Length, Value, Cut, Extra}
 use Rattle.vt_base.specs.declared.words.Malformed.{Malformed}
-use Rattle.state_blobs.specs.declared.format.TheConstants.{VERSION}
+use Rattle.state_blobs.specs.Numbers.{version}
 use Rattle.state_blobs.specs.Texts.{magic_of, slice, IsBlob, is_length, flag_fits}
 use Rattle.state_blobs.specs.Blobs.{Ending, body_then, after_magic, blob}
 use Rattle.state_blobs.specs.Refusals.{FirstDiffersAt, BeginsAsBlob, length_field, IsRefusedFor, IsRefused}
@@ -42,19 +42,19 @@ whole_or_refused f e = cc
 
 -- the first byte of the body
 body_refused : (kind : Kind) (fault : Malformed) (a b c d : ℕ) (rest more : List ℕ) → is_length kind (from_be_bytes w32 (a ∷ b ∷ c ∷ d ∷ [])) ≡ true
-    → Spells (body_then kind (from_be_bytes w32 (a ∷ b ∷ c ∷ d ∷ []))) (Err fault) rest → IsRefused kind fault ((magic_of kind ++ VERSION ∷ a ∷ b ∷ c ∷ d ∷ rest) ++ more)
+    → Spells (body_then kind (from_be_bytes w32 (a ∷ b ∷ c ∷ d ∷ []))) (Err fault) rest → IsRefused kind fault ((magic_of kind ++ version ∷ a ∷ b ∷ c ∷ d ∷ rest) ++ more)
 body_refused kind fault a b c d [] more is spelled = absurd (omega (arith, spelled.0))
 body_refused kind fault a b c d (flag ∷ rest) more is spelled =
     elim (chosen (flag_fits kind (from_be_bytes w32 (a ∷ b ∷ c ∷ d ∷ [])) flag) (Field (from_be_bytes w32 (a ∷ b ∷ c ∷ d ∷ []) - 1) (λ _. Ends (Ok tt))) (refuse Value 9) (Err fault) rest spelled.1) [
       | inl (fits, then) ↦ absurd (whole_or_refused fault then.1.0)
       | inr (differs, ends) ↦
-          subst (λ (f : Malformed). IsRefused kind f ((magic_of kind ++ VERSION ∷ a ∷ b ∷ c ∷ d ∷ flag ∷ rest) ++ more)) (sym (same_fault fault (malformed Value 9) ends.0))
+          subst (λ (f : Malformed). IsRefused kind f ((magic_of kind ++ version ∷ a ∷ b ∷ c ∷ d ∷ flag ∷ rest) ++ more)) (sym (same_fault fault (malformed Value 9) ends.0))
           (refl, omega arith, refl, is, differs)
     ]
 
 -- the length, and what follows it
 length_refused : (kind : Kind) (fault : Malformed) (rest more : List ℕ) → Spells (number_then (λ count. cond (is_length kind count) (body_then kind count) (refuse Length 5))) (Err fault) rest
-    → IsRefused kind fault ((magic_of kind ++ VERSION ∷ rest) ++ more)
+    → IsRefused kind fault ((magic_of kind ++ version ∷ rest) ++ more)
 length_refused kind fault [] more spelled = absurd (omega (arith, spelled.0))
 length_refused kind fault (a ∷ []) more spelled = absurd (omega (arith, spelled.0))
 length_refused kind fault (a ∷ b ∷ []) more spelled = absurd (omega (arith, spelled.0))
@@ -62,7 +62,7 @@ length_refused kind fault (a ∷ b ∷ c ∷ []) more spelled = absurd (omega (a
 length_refused kind fault (a ∷ b ∷ c ∷ d ∷ rest) more spelled =
     elim (chosen (is_length kind (from_be_bytes w32 (a ∷ b ∷ c ∷ d ∷ []))) (body_then kind (from_be_bytes w32 (a ∷ b ∷ c ∷ d ∷ []))) (refuse Length 5) (Err fault) rest spelled.1) [
       | inr (is, ends) ↦
-          subst (λ (f : Malformed). IsRefused kind f ((magic_of kind ++ VERSION ∷ a ∷ b ∷ c ∷ d ∷ rest) ++ more)) (sym (same_fault fault (malformed Length 5) ends.0))
+          subst (λ (f : Malformed). IsRefused kind f ((magic_of kind ++ version ∷ a ∷ b ∷ c ∷ d ∷ rest) ++ more)) (sym (same_fault fault (malformed Length 5) ends.0))
           (refl, omega arith, refl, is)
       | inl (is, then) ↦ body_refused kind fault a b c d rest more is then
     ]
@@ -77,13 +77,13 @@ front_refused kind fault front more spelled =
           (differs_more i front more (magic_of kind) first)
       | inl (rest, is, then) ↦
           subst (λ (bytes : List ℕ). IsRefused kind fault (bytes ++ more)) (sym is)
-          (elim (mark_cases VERSION Version 4 (number_then (λ count. cond (is_length kind count) (body_then kind count) (refuse Length 5))) (Err fault) rest then) [
+          (elim (mark_cases version Version 4 (number_then (λ count. cond (is_length kind count) (body_then kind count) (refuse Length 5))) (Err fault) rest then) [
             | inr (other, differs, was, ends) ↦ version_refused kind fault other rest more differs was (same_fault fault (malformed Version 4) (sym ends))
             | inl (behind, are, counted) ↦ subst (λ (bytes : List ℕ). IsRefused kind fault ((magic_of kind ++ bytes) ++ more)) (sym are) (length_refused kind fault behind more counted)
           ])
     ]
   where
-    version_refused : (kind : Kind) (fault : Malformed) (other : ℕ) (rest more : List ℕ) → other ≢ VERSION → rest ≡ other ∷ [] → fault ≡ malformed Version 4 → IsRefused kind fault ((magic_of kind ++ rest) ++ more)
+    version_refused : (kind : Kind) (fault : Malformed) (other : ℕ) (rest more : List ℕ) → other ≢ version → rest ≡ other ∷ [] → fault ≡ malformed Version 4 → IsRefused kind fault ((magic_of kind ++ rest) ++ more)
     version_refused kind fault other rest more differs was is =
         subst (λ (bytes : List ℕ). IsRefused kind fault ((magic_of kind ++ bytes) ++ more)) (sym was)
         (subst (λ (f : Malformed). IsRefused kind f ((magic_of kind ++ other ∷ []) ++ more)) (sym is) (refl, omega arith, refl, differs))
@@ -97,14 +97,14 @@ number_told next end field rest size spelled = spells_field (λ (f : List ℕ). 
 abbrev pub IsTold : Kind → Why → ℕ → List ℕ → Type 0
 IsTold kind why place bytes = (n : ℕ) × Spells (blob kind) (Err (malformed why place)) (take n bytes)
 
-told_version : (kind : Kind) (bytes : List ℕ) → 4 < length bytes → take 4 bytes ≡ magic_of kind → get_or bytes 4 0 ≢ VERSION → IsTold kind Version 4 bytes
+told_version : (kind : Kind) (bytes : List ℕ) → 4 < length bytes → take 4 bytes ≡ magic_of kind → get_or bytes 4 0 ≢ version → IsTold kind Version 4 bytes
 unfolding blob
 told_version kind bytes long begins differs =
     let front : take 5 bytes ≡ magic_of kind ++ get_or bytes 4 0 ∷ [] = take_more bytes 4 0 long ∙ ap (λ (m : List ℕ). m ++ get_or bytes 4 0 ∷ []) begins in (
       5,
       subst (Spells (blob kind) (Err (malformed Version 4))) (sym front)
           (marks_spell (magic_of kind) 0 (after_magic kind) (Err (malformed Version 4)) (get_or bytes 4 0 ∷ [])
-          (mark_refuses VERSION Version 4 (number_then (λ count. cond (is_length kind count) (body_then kind count) (refuse Length 5))) (get_or bytes 4 0) differs)),
+          (mark_refuses version Version 4 (number_then (λ count. cond (is_length kind count) (body_then kind count) (refuse Length 5))) (get_or bytes 4 0) differs)),
     )
 
 -- the length field and what follows it, behind a magic and a version in order
@@ -113,12 +113,12 @@ told_behind : (kind : Kind) (why : Why) (place n : ℕ) (bytes : List ℕ) → 9
 unfolding blob
 told_behind kind why place n bytes long begins spelled =
     let field : length (slice bytes 5 4) ≡ 4 = omega (arith, length-take 4 (drop 5 bytes), length-drop 5 bytes) in
-    let told = marks_spell (magic_of kind) 0 (after_magic kind) (Err (malformed why place)) (VERSION ∷ (slice bytes 5 4 ++ take n (drop 9 bytes)))
-    (mark_spells VERSION Version 4 (number_then (λ count. cond (is_length kind count) (body_then kind count) (refuse Length 5))) (Err (malformed why place)) (slice bytes 5 4 ++ take n (drop 9 bytes))
+    let told = marks_spell (magic_of kind) 0 (after_magic kind) (Err (malformed why place)) (version ∷ (slice bytes 5 4 ++ take n (drop 9 bytes)))
+    (mark_spells version Version 4 (number_then (λ count. cond (is_length kind count) (body_then kind count) (refuse Length 5))) (Err (malformed why place)) (slice bytes 5 4 ++ take n (drop 9 bytes))
     (number_told (λ count. cond (is_length kind count) (body_then kind count) (refuse Length 5)) (Err (malformed why place)) (slice bytes 5 4) (take n (drop 9 bytes)) field spelled)) in
-    let front : take (5 + (4 + n)) bytes ≡ (magic_of kind ++ VERSION ∷ []) ++ (slice bytes 5 4 ++ take n (drop 9 bytes)) =
+    let front : take (5 + (4 + n)) bytes ≡ (magic_of kind ++ version ∷ []) ++ (slice bytes 5 4 ++ take n (drop 9 bytes)) =
     take-add 5 (4 + n) bytes ∙ ap (λ (f : List ℕ). f ++ take (4 + n) (drop 5 bytes)) begins
-    ∙ ap (λ (r : List ℕ). (magic_of kind ++ VERSION ∷ []) ++ r) (take-add 4 n (drop 5 bytes) ∙ ap (λ (r : List ℕ). slice bytes 5 4 ++ take n r) (drop-drop 4 5 bytes)) in
+    ∙ ap (λ (r : List ℕ). (magic_of kind ++ version ∷ []) ++ r) (take-add 4 n (drop 5 bytes) ∙ ap (λ (r : List ℕ). slice bytes 5 4 ++ take n r) (drop-drop 4 5 bytes)) in
     (5 + (4 + n), subst (Spells (blob kind) (Err (malformed why place))) (sym front) told)
 
 told_length : (kind : Kind) (bytes : List ℕ) → 9 ≤ length bytes → BeginsAsBlob kind bytes → is_length kind (length_field bytes) ≡ false → IsTold kind Length 5 bytes

@@ -6,7 +6,7 @@ use Rattle.vt_base.specs.Refusing.{refuse, mark_then}
 use Rattle.vt_base.specs.declared.words.Kind.{Kind}
 use Rattle.vt_base.specs.declared.words.Why.TheVariants.{Version, Length, Value}
 use Rattle.vt_base.specs.declared.words.Malformed.{Malformed}
-use Rattle.state_blobs.specs.declared.format.TheConstants.{VERSION}
+use Rattle.state_blobs.specs.Numbers.{version, version_place, length_place, body_place}
 use Rattle.state_blobs.specs.Texts.{magic_of, is_length, flag_fits}
 
 -- a whole blob, or why the bytes are refused
@@ -15,11 +15,11 @@ Ending = Result (Unit {0}) Malformed
 
 -- so many bytes, of which only the first is looked at
 abbrev pub body_then : Kind → ℕ → Layout Ending
-body_then kind count = byte_then (λ flag. if flag_fits kind count flag then Field (count - 1) (λ _. Ends (Ok tt)) else refuse Value 9)
+body_then kind count = byte_then (λ flag. if flag_fits kind count flag then Field (count - 1) (λ _. Ends (Ok tt)) else refuse Value body_place)
 
 -- the version, the length, and a body of that length
 abbrev pub after_magic : Kind → Layout Ending
-after_magic kind = mark_then VERSION Version 4 (number_then (λ count. if is_length kind count then body_then kind count else refuse Length 5))
+after_magic kind = mark_then version Version version_place (number_then (λ count. if is_length kind count then body_then kind count else refuse Length length_place))
 
 unfoldable pub blob : Kind → Layout Ending
 blob kind = marks_then (magic_of kind) 0 (after_magic kind)

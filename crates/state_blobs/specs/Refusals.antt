@@ -5,7 +5,7 @@ use Rattle.vt_base.specs.declared.words.Kind.{Kind}
 use Rattle.vt_base.specs.declared.words.Why.{Why}
 use Rattle.vt_base.specs.declared.words.Why.TheVariants.{Magic, Version, Length, Value, Cut, Extra}
 use Rattle.vt_base.specs.declared.words.Malformed.{Malformed}
-use Rattle.state_blobs.specs.declared.format.TheConstants.{VERSION}
+use Rattle.state_blobs.specs.Numbers.{version, version_place, length_place, body_place}
 use Rattle.state_blobs.specs.Texts.{magic_of, slice, IsBlob, is_length, flag_fits}
 
 -- the first place where a list isn't what is wanted
@@ -17,19 +17,19 @@ pub record FirstDiffersAt (place : ℕ) (bytes wanted : List ℕ) : Type 0 where
 
 -- the magic and the version are there, and in order
 abbrev pub BeginsAsBlob : Kind → List ℕ → Type 0
-BeginsAsBlob kind bytes = take 5 bytes ≡ magic_of kind ++ VERSION ∷ []
+BeginsAsBlob kind bytes = take 5 bytes ≡ magic_of kind ++ version ∷ []
 
 -- the number in the length field
 abbrev pub length_field : List ℕ → ℕ
-length_field bytes = from_be_bytes w32 (slice bytes 5 4)
+length_field bytes = from_be_bytes w32 (slice bytes length_place 4)
 
 -- Each row says that the fields before its own are in order. A field is judged when it is whole; in a magic each byte is one.
 abbrev pub IsRefusedFor : Kind → Why → ℕ → List ℕ → Type 0
 IsRefusedFor kind Magic place bytes = FirstDiffersAt place bytes (magic_of kind)
-IsRefusedFor kind Version place bytes = (place ≡ 4) × (4 < length bytes) × (take 4 bytes ≡ magic_of kind) × (slice_index bytes 4 ≢ VERSION)
-IsRefusedFor kind Length place bytes = (place ≡ 5) × (9 ≤ length bytes) × BeginsAsBlob kind bytes × (is_length kind (length_field bytes) ≡ false)
+IsRefusedFor kind Version place bytes = (place ≡ version_place) × (version_place < length bytes) × (take 4 bytes ≡ magic_of kind) × (slice_index bytes version_place ≢ version)
+IsRefusedFor kind Length place bytes = (place ≡ length_place) × (body_place ≤ length bytes) × BeginsAsBlob kind bytes × (is_length kind (length_field bytes) ≡ false)
 IsRefusedFor kind Value place bytes =
-    (place ≡ 9) × (9 < length bytes) × BeginsAsBlob kind bytes × (is_length kind (length_field bytes) ≡ true) × (flag_fits kind (length_field bytes) (slice_index bytes 9) ≡ false)
+    (place ≡ body_place) × (body_place < length bytes) × BeginsAsBlob kind bytes × (is_length kind (length_field bytes) ≡ true) × (flag_fits kind (length_field bytes) (slice_index bytes body_place) ≡ false)
 IsRefusedFor kind Cut place bytes = ⊥
 IsRefusedFor kind Extra place bytes = (place < length bytes) × IsBlob kind (take place bytes)
 

@@ -10,8 +10,8 @@ use Rattle.vt_base.specs.Within.{either_within, mark_within}
 use Rattle.vt_base.specs.declared.words.Kind.{Kind}
 use Rattle.vt_base.specs.declared.words.Kind.TheVariants.{Permanent, Volatile, Saved}
 use Rattle.vt_base.specs.declared.words.Why.TheVariants.{Magic, Version, Length, Value}
+use Rattle.state_blobs.specs.Numbers.{largest_blob}
 use Rattle.state_blobs.specs.Texts.{letter_of, is_length, flag_fits}
-use Rattle.state_blobs.specs.declared.format.TheConstants.{VERSION}
 use Rattle.state_blobs.specs.Blobs.{body_then, blob}
 
 either_is : (n a b : ℕ) → eqb n a || eqb n b ≡ true → a ≤ 781 → b ≤ 781 → n ≤ 781
@@ -26,8 +26,8 @@ length_bound Saved count is = either_is count 1 517 is (lit≤ tt) (lit≤ tt)
 body_within : (kind : Kind) (count : ℕ) → count ≤ 781 → IsWithin (body_then kind count) 781
 body_within kind count le = (lit≤ tt, λ flag. either_within (flag_fits kind count (slice_index flag 0)) _ (refuse Value 9) 780 (λ _. (omega (arith, le), λ _. tt)) (λ _. tt))
 
-pub blob_within : (kind : Kind) → IsWithin (blob kind) 790
+pub blob_within : (kind : Kind) → IsWithin (blob kind) largest_blob
 unfolding blob
 blob_within kind =
     mark_within 67 Magic 0 _ 790 (lit≤ tt) (mark_within 82 Magic 1 _ 789 (lit≤ tt) (mark_within 66 Magic 2 _ 788 (lit≤ tt) (mark_within (letter_of kind) Magic 3 _ 787 (lit≤ tt)
-    (mark_within VERSION Version 4 _ 786 (lit≤ tt) (lit≤ tt, λ field. either_within (is_length kind (from_be_bytes w32 field)) _ (refuse Length 5) 781 (λ is. body_within kind (from_be_bytes w32 field) (length_bound kind (from_be_bytes w32 field) is)) (λ _. tt))))))
+    (mark_within 1 Version 4 _ 786 (lit≤ tt) (lit≤ tt, λ field. either_within (is_length kind (from_be_bytes w32 field)) _ (refuse Length 5) 781 (λ is. body_within kind (from_be_bytes w32 field) (length_bound kind (from_be_bytes w32 field) is)) (λ _. tt))))))

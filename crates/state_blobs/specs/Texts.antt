@@ -2,12 +2,12 @@
 use Rattle.std.specs.Prelude.{◌≡◌, ℕ, ◌+◌, List, [], ◌∷◌, ◌++◌, length, take, drop, Option, Some, None, if◌then◌else◌, Bool, true, ◌||◌, ◌==◌}
 use Rattle.std.specs.List.{concat}
 use Rattle.vt_base.specs.Numbers.{number, long}
+use Rattle.state_blobs.specs.Numbers.{version, permanent_length, flag_alone, volatile_length, saved_length}
 use Rattle.vt_base.specs.declared.words.Kind.{Kind}
 use Rattle.vt_base.specs.declared.words.Kind.TheVariants.{Permanent, Volatile, Saved}
 use Rattle.tpm_core.specs.declared.parts.SavedParts.{SavedParts}
 use Rattle.tpm_core.specs.declared.parts.TpmParts.{TpmParts}
 use Rattle.tpm_core.specs.Steps.{IsFit}
-use Rattle.state_blobs.specs.declared.format.TheConstants.{VERSION, FLAG_ALONE, PERMANENT_LENGTH, VOLATILE_LENGTH, SAVED_LENGTH}
 
 -- the letter that tells the kinds apart: P, V or Z
 abbrev pub letter_of : Kind → ℕ
@@ -21,7 +21,7 @@ magic_of kind = 67 ∷ 82 ∷ 66 ∷ letter_of kind ∷ []
 
 -- the magic, the version, and how many bytes follow
 abbrev pub header_of : Kind → ℕ → List ℕ
-header_of kind count = magic_of kind ++ VERSION ∷ [] ++ number count
+header_of kind count = magic_of kind ++ version ∷ [] ++ number count
 
 -- bytes behind their header
 abbrev pub with_header : Kind → List ℕ → List ℕ
@@ -55,13 +55,13 @@ text_of kind v = with_header kind (body_of kind v)
 
 -- whether so many bytes may follow the length field
 abbrev pub is_length : Kind → ℕ → Bool
-is_length Permanent count = count == PERMANENT_LENGTH
-is_length Volatile count = count == FLAG_ALONE || count == VOLATILE_LENGTH
-is_length Saved count = count == FLAG_ALONE || count == SAVED_LENGTH
+is_length Permanent count = count == permanent_length
+is_length Volatile count = count == flag_alone || count == volatile_length
+is_length Saved count = count == flag_alone || count == saved_length
 
 -- the flag at the front of so many bytes: 1 where values follow it
 abbrev pub flag_for : ℕ → ℕ
-flag_for count = if count == FLAG_ALONE then 0 else 1
+flag_for count = if count == flag_alone then 0 else 1
 
 -- whether the byte behind the header may stand there: that of a permanent blob is no flag
 abbrev pub flag_fits : Kind → ℕ → ℕ → Bool

@@ -58,9 +58,9 @@ impl Gather {
         self.kind
     }
 
-    /// The bytes so far.
+    /// The bytes so far; every clause of a gather speaks of them.
     #[tactic(auto, using(crate::proofs::Told::blob_if_whole, crate::proofs::Told::cut_if_not))]
-    pub fn begun(&self) -> &[u8]
+    pub(crate) fn begun(&self) -> &[u8]
         ensures bytes { result.now ≡ self.now.begun }
         ensures fits { IsBytes self.now.begun }
         ensures blob { OnTrue self.now.whole (IsBlob self.now.kind self.now.begun) }
@@ -68,6 +68,14 @@ impl Gather {
         ensures few { length self.now.begun ≤ 790 }
     {
         self.held.as_slice()
+    }
+
+    /// How many bytes came so far.
+    pub fn len(&self) -> usize
+        ensures count { result ≡ length self.now.begun }
+        ensures most { result ≤ 790 }
+    {
+        self.held.as_slice().len()
     }
 
     /// Whether the blob is whole.

@@ -18,10 +18,12 @@ ghost use Rattle.state_blobs.specs.Refusals.{IsRefused, IsCut};
 ghost use Rattle.state_blobs.specs.Assembly.{IsAssembled, IsFault};
 
 /// Bytes are a blob, or refused for one reason, or cut; and the table of refusals is the layout of a blob told from the left.
-#[tactic(auto, using(crate::proofs::Apart::text_is_blob, crate::proofs::Apart::front_is_cut, crate::proofs::Apart::blob_not_refused, crate::proofs::Apart::refused_once, crate::proofs::Apart::refused_is_told_if, crate::proofs::Refused::front_refused, crate::proofs::Bodies::blob_is_told, crate::proofs::Bodies::told_is_blob))]
+#[tactic(auto, using(crate::proofs::Sizes::text_least, crate::proofs::Sizes::text_most, crate::proofs::Apart::text_is_blob, crate::proofs::Apart::front_is_cut, crate::proofs::Apart::blob_not_refused, crate::proofs::Apart::refused_once, crate::proofs::Apart::refused_is_told_if, crate::proofs::Refused::front_refused, crate::proofs::Bodies::blob_is_told, crate::proofs::Bodies::told_is_blob))]
 pub fn blobs_are_told_apart()
     // What is given of fit values is a blob, and each front of it is cut: so a gather takes its pieces, in order, until it is whole.
     ensures texts { (kind : Kind) (v : TpmParts) → IsFit v → IsBlob kind (text_of kind v) }
+    ensures least { (kind : Kind) (v : TpmParts) → 10 ≤ length (text_of kind v) }
+    ensures most { (kind : Kind) (v : TpmParts) → IsFit v → length (text_of kind v) ≤ 790 }
     ensures fronts { (kind : Kind) (bytes : List ℕ) (n : ℕ) → IsBlob kind bytes → n < length bytes → IsCut kind (take n bytes) }
 
     ensures not_refused { (kind : Kind) (fault : Malformed) (bytes : List ℕ) → IsBlob kind bytes → IsRefused kind fault bytes → ⊥ }

@@ -1,5 +1,6 @@
 //! Words of the answers.
 
+use std::fmt;
 use vt_base::{Kind, Malformed};
 
 /// What was given of a blob.
@@ -18,4 +19,16 @@ pub struct BlobFault {
     pub kind: Kind,
     /// What is wrong with it, at a place counted from its first byte.
     pub fault: Malformed,
+}
+
+impl fmt::Display for BlobFault {
+    fn fmt<W: fmt::Write>(&self, f: &mut fmt::Formatter<W>) -> fmt::Result {
+        let blob = match self.kind {
+            Kind::Permanent => "permanent",
+            Kind::Volatile => "volatile",
+            Kind::Saved => "saved",
+        };
+        let place = self.fault.place;
+        write!(f, "the {blob} blob is malformed at byte {place}")
+    }
 }

@@ -4,7 +4,7 @@ use Rattle.std.proofs.lemmas.Bool.{ltb-true, ltb-false}
 use Rattle.std.specs.Prelude.{IfOk, IfSome}
 use Rattle.std.specs.Int.{w16, w32}
 use Rattle.tpm_frame.specs.declared.Head.{Head}
-use Rattle.tpm_frame.specs.declared.TheConstants.{STARTUP, SHUTDOWN, GET_RANDOM, PCR_READ, PCR_EXTEND}
+use Rattle.tpm_frame.specs.Numbers.{cc_startup, cc_shutdown, cc_get_random, cc_pcr_read, cc_pcr_extend}
 use Rattle.tpm_core.specs.declared.refusal.Refusal.{Refusal}
 use Rattle.tpm_core.specs.declared.refusal.Refusal.TheVariants as refusals
 use Rattle.tpm_core.specs.declared.command.Command.{Command}
@@ -82,25 +82,26 @@ on_from_apart false false p q = absurd cc
 
 -- but for a start, commands are let through where the TPM is started
 abbrev IsOnFor : Bool → Head → Type 0
-IsOnFor on head = eqb head.code STARTUP ≡ false → on ≡ true
+IsOnFor on head = eqb head.code cc_startup ≡ false → on ≡ true
 
 admitted_on : (on : Bool) (head : Head) → IfOk (admitted on head) (IsOnFor on)
 admitted_on on head =
-    if_ok _ (same on (eqb head.code STARTUP)) _ _ (λ e. tt) (λ apart.
-    let known : IsOnFor on head = on_from_apart on (eqb head.code STARTUP) apart in
-    if_ok _ (eqb head.code PCR_EXTEND) _ _
+    if_ok _ (same on (eqb head.code cc_startup)) _ _ (λ e. tt) (λ apart.
+    let known : IsOnFor on head = on_from_apart on (eqb head.code cc_startup) apart in
+    if_ok _ (eqb head.code cc_pcr_extend) _ _
     (λ e. if_ok _ head.sessions _ _ (λ e. known) (λ e. tt))
     (λ e. if_ok _ head.sessions _ _ (λ e. tt) (λ e. known)))
 
 parameters_reach : (on has_saved : Bool) (head : Head) (bytes : List ℕ) → IsOnFor on head → IfOk (parameters_at has_saved head.code bytes) (λ x. IsInReach on x.0)
 unfolding parameters_at
 parameters_reach on has_saved head bytes known =
-    if_ok _ (eqb head.code STARTUP) _ _ (λ e. startup_reach on has_saved bytes) (λ no.
-    let P : Bool → Type 0 = λ b. IfOk (cond (eqb head.code SHUTDOWN) (shutdown_at bytes) (cond (eqb head.code GET_RANDOM) (get_random_at bytes) (cond (eqb head.code PCR_READ) (pcr_read_at bytes) (pcr_extend_at bytes)))) (λ x. IsInReach b x.0) in
+    if_ok _ (eqb head.code cc_startup) _ _ (λ e. startup_reach on has_saved bytes) (λ no.
+    let P : Bool → Type 0 = λ b. IfOk (cond (eqb head.code cc_shutdown) (shutdown_at bytes) (cond (eqb head.code cc_get_random) (get_random_at bytes) (cond (eqb head.code cc_pcr_read) (pcr_read_at bytes) (cond (eqb head.code cc_pcr_extend) (pcr_extend_at bytes) (Err refusals.CommandCode))))) (λ x. IsInReach b x.0) in
     subst P (sym (known no))
-    (if_ok _ (eqb head.code SHUTDOWN) _ _ (λ e. shutdown_reach true bytes) (λ e.
-    if_ok _ (eqb head.code GET_RANDOM) _ _ (λ e. random_reach bytes) (λ e.
-    if_ok _ (eqb head.code PCR_READ) _ _ (λ e. read_reach true bytes) (λ e. extend_small bytes)))))
+    (if_ok _ (eqb head.code cc_shutdown) _ _ (λ e. shutdown_reach true bytes) (λ e.
+    if_ok _ (eqb head.code cc_get_random) _ _ (λ e. random_reach bytes) (λ e.
+    if_ok _ (eqb head.code cc_pcr_read) _ _ (λ e. read_reach true bytes) (λ e.
+    if_ok _ (eqb head.code cc_pcr_extend) _ _ (λ e. extend_small bytes) (λ e. tt))))))
 
 lawful_reach : (on : Bool) (command : Command) → IsInReach on command → IfOk (lawful command) (IsInReach on)
 lawful_reach on (PcrExtend extension) h = if_ok _ (is_closed extension.0) _ _ (λ e. tt) (λ e. h)

@@ -4,7 +4,7 @@ use Rattle.std.specs.Prelude.{IsOk, IfOk, IsTrue, ◌↔◌}
 use Rattle.std.specs.Int.{w16, w32}
 use Rattle.std.proofs.lemmas.List.{length-take, length-append, get_or_past}
 use Rattle.std.proofs.lemmas.Nat.{from_be_bytes-to_be_bytes_4}
-use Rattle.tpm_frame.specs.declared.TheConstants.{NO_SESSIONS, SESSIONS}
+use Rattle.tpm_frame.specs.Numbers.{st_no_sessions, st_sessions}
 use Rattle.tpm_frame.specs.Frame.{number_at, short, is_response_tag}
 use Rattle.tpm_core.specs.declared.parts.TpmParts.{TpmParts}
 use Rattle.tpm_core.specs.declared.refusal.Refusal.{Refusal}
@@ -103,11 +103,11 @@ read_small v selections fit few =
 
 response_is : (v : TpmParts) (command : Command) → IsFit v → IsInReach v.started command → IsResponse (response v command)
 unfolding response
-response_is v (Startup mode) fit h = framed_is_response NO_SESSIONS [] refl (omega arith)
-response_is v (Shutdown mode) fit h = framed_is_response NO_SESSIONS [] refl (omega arith)
-response_is v (GetRandom asked) fit h = framed_is_response NO_SESSIONS (random_bytes v asked) refl (random_small v asked)
-response_is v (PcrRead selections) fit h = framed_is_response NO_SESSIONS (registers_read v selections) refl (read_small v selections fit h)
-response_is v (PcrExtend extension) fit h = framed_is_response SESSIONS password_session refl (omega arith)
+response_is v (Startup mode) fit h = framed_is_response st_no_sessions [] refl (omega arith)
+response_is v (Shutdown mode) fit h = framed_is_response st_no_sessions [] refl (omega arith)
+response_is v (GetRandom asked) fit h = framed_is_response st_no_sessions (random_bytes v asked) refl (random_small v asked)
+response_is v (PcrRead selections) fit h = framed_is_response st_no_sessions (registers_read v selections) refl (read_small v selections fit h)
+response_is v (PcrExtend extension) fit h = framed_is_response st_sessions password_session refl (omega arith)
 
 response_code : (v : TpmParts) (command : Command) → number_at w32 6 (response v command) ≡ 0
 unfolding response

@@ -1,7 +1,7 @@
 -- Hash algorithms, and digests that say which of them they are of.
 use Rattle.std.specs.Prelude.{ℕ, List, [], ◌∷◌, Option, Some, None, ◌==◌, if◌then◌else◌}
 use Rattle.sha2.specs.Sha256.{sha256}
-use Rattle.tpm_core.specs.declared.codes.TheConstants.{ALG_SHA256}
+use Rattle.tpm_core.specs.Numbers.{alg_sha256}
 use Rattle.tpm_core.specs.declared.algorithm.Algorithm.{Algorithm}
 use Rattle.tpm_core.specs.declared.algorithm.Algorithm.TheVariants.{Sha256}
 use Rattle.tpm_core.specs.declared.algorithm.Measurement.{Measurement}
@@ -17,11 +17,11 @@ digest_of Sha256 message = sha256 message
 
 -- the number that commands and responses name it by
 abbrev pub identifier_of : Algorithm → ℕ
-identifier_of Sha256 = ALG_SHA256
+identifier_of Sha256 = alg_sha256
 
 -- the algorithm that a number names, if the TPM has a bank of it
 abbrev pub algorithm_of : ℕ → Option Algorithm
-algorithm_of identifier = if identifier == ALG_SHA256 then Some Sha256 else None
+algorithm_of identifier = if identifier == alg_sha256 then Some Sha256 else None
 
 -- a digest of an algorithm
 abbrev pub measured : Algorithm → List ℕ → Measurement

@@ -10,7 +10,7 @@ use Rattle.tpm_core.specs.Algorithms.{digest_size, identifier_of}
 use Rattle.tpm_core.specs.Selected.{bits_of, chosen_of, all_registers}
 use Rattle.std.specs.Int.{w16, w32, w64, to_be_bytes}
 use Rattle.sha2.specs.Sha256.{sha256}
-use Rattle.tpm_frame.specs.declared.TheConstants.{NO_SESSIONS, SESSIONS}
+use Rattle.tpm_frame.specs.Numbers.{st_no_sessions, st_sessions, rc_success, header_size}
 use Rattle.tpm_frame.specs.Frame.{short}
 use Rattle.tpm_core.specs.declared.parts.SavedParts.{SavedParts}
 use Rattle.tpm_core.specs.declared.parts.TpmParts.{TpmParts}
@@ -58,7 +58,7 @@ block_of v = sha256 (codes "CRBR" ++ v.seed ++ to_be_bytes w64 v.boots ++ to_be_
 
 -- the response to a command that succeeded
 abbrev pub framed : ℕ → List ℕ → List ℕ
-framed tag body = to_be_bytes w16 tag ++ to_be_bytes w32 (10 + length body) ++ to_be_bytes w32 0 ++ body
+framed tag body = to_be_bytes w16 tag ++ to_be_bytes w32 (header_size + length body) ++ to_be_bytes w32 rc_success ++ body
 
 -- as many bytes of the block as were asked for, with their number before them
 abbrev pub random_bytes : TpmParts → ℕ → List ℕ
@@ -86,11 +86,11 @@ password_session = 0 ∷ 0 ∷ 0 ∷ 0 ∷ 0 ∷ 0 ∷ 1 ∷ 0 ∷ 0 ∷ []
 
 -- the response to a command that did what it does, to a TPM with the values v
 unfoldable pub response : TpmParts → Command → List ℕ
-response v (Startup mode) = framed NO_SESSIONS []
-response v (Shutdown mode) = framed NO_SESSIONS []
-response v (GetRandom asked) = framed NO_SESSIONS (random_bytes v asked)
-response v (PcrRead selections) = framed NO_SESSIONS (registers_read v selections)
-response v (PcrExtend extension) = framed SESSIONS password_session
+response v (Startup mode) = framed st_no_sessions []
+response v (Shutdown mode) = framed st_no_sessions []
+response v (GetRandom asked) = framed st_no_sessions (random_bytes v asked)
+response v (PcrRead selections) = framed st_no_sessions (registers_read v selections)
+response v (PcrExtend extension) = framed st_sessions password_session
 
 -- the command that the bytes are to a TPM with the values v
 abbrev pub read_by : TpmParts → List ℕ → Result Command Refusal

@@ -1,3 +1,4 @@
+pub mod Numbers
 pub mod Algorithms
 pub mod Banks
 pub mod Refusals

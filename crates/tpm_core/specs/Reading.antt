@@ -2,11 +2,11 @@
 use Rattle.std.specs.Prelude.{◌≡◌, ℕ, zero, suc, ◌+◌, Bool, true, false, not, ◌&&◌, ◌||◌, List, [], ◌∷◌, length, take, drop, Option, Some, None, Result, Ok, Err, nat_lt, ◌==◌, if◌then◌else◌}
 use Rattle.std.specs.Int.{Width, w8, w16, w32, byte_len, from_be_bytes}
 use Rattle.tpm_frame.specs.declared.Head.{Head}
-use Rattle.tpm_frame.specs.declared.TheConstants.{BAD_TAG, COMMAND_SIZE, STARTUP, SHUTDOWN, GET_RANDOM, PCR_READ, PCR_EXTEND}
+use Rattle.tpm_frame.specs.Numbers.{rc_bad_tag, rc_command_size, cc_startup, cc_shutdown, cc_get_random, cc_pcr_read, cc_pcr_extend, header_size}
 use Rattle.tpm_frame.specs.Frame.{head_of}
+use Rattle.tpm_core.specs.Numbers.{su_clear, su_state, rh_null, rs_pw}
 use Rattle.tpm_core.specs.declared.algorithm.Algorithm.{Algorithm}
 use Rattle.tpm_core.specs.declared.algorithm.Measurement.{Measurement}
-use Rattle.tpm_core.specs.declared.codes.TheConstants.{RS_PW, RH_NULL, SU_CLEAR, SU_STATE}
 use Rattle.tpm_core.specs.declared.refusal.Refusal.{Refusal}
 use Rattle.tpm_core.specs.declared.refusal.Refusal.TheVariants as refusals
 use Rattle.tpm_core.specs.declared.command.Mode.{Mode}
@@ -36,8 +36,8 @@ number_at w cut bytes = if nat_lt (length bytes) (byte_len w) then Err cut else 
 abbrev pub head_refused : Result Head ℕ → Result Head Refusal
 head_refused (Ok head) = Ok head
 head_refused (Err code) =
-    if code == BAD_TAG then Err refusals.BadTag
-    else if code == COMMAND_SIZE then Err refusals.CommandSize
+    if code == rc_bad_tag then Err refusals.BadTag
+    else if code == rc_command_size then Err refusals.CommandSize
     else Err refusals.CommandCode
 
 -- the first three checks: the header
@@ -52,8 +52,8 @@ same false b = not b
 -- the next two: a start comes first and once, and an extend alone has sessions
 abbrev pub admitted : Bool → Head → Result Head Refusal
 admitted started head =
-    if same started (head.code == STARTUP) then Err refusals.Initialize
-    else if head.code == PCR_EXTEND then (if head.sessions then Ok head else Err refusals.AuthMissing)
+    if same started (head.code == cc_startup) then Err refusals.Initialize
+    else if head.code == cc_pcr_extend then (if head.sessions then Ok head else Err refusals.AuthMissing)
     else if head.sessions then Err refusals.AuthContext
     else Ok head
 
@@ -61,7 +61,7 @@ admitted started head =
 unfoldable pub mode_at : List ℕ → Result (Mode × List ℕ) Refusal
 mode_at bytes = do
   n ← number_at w16 refusals.ParameterCut bytes
-  if n.0 == SU_CLEAR then Ok (Clear, n.1) else if n.0 == SU_STATE then Ok (State, n.1) else Err refusals.ParameterValue
+  if n.0 == su_clear then Ok (Clear, n.1) else if n.0 == su_state then Ok (State, n.1) else Err refusals.ParameterValue
 
 -- values are to be kept or brought back
 abbrev pub is_state : Mode → Bool
@@ -90,7 +90,7 @@ get_random_at bytes = do
 unfoldable pub handle_at : List ℕ → Result (Option ℕ × List ℕ) Refusal
 handle_at bytes = do
   n ← number_at w32 refusals.HandleCut bytes
-  if nat_lt n.0 24 then Ok (Some n.0, n.1) else if n.0 == RH_NULL then Ok (None, n.1) else Err refusals.HandleValue
+  if nat_lt n.0 24 then Ok (Some n.0, n.1) else if n.0 == rh_null then Ok (None, n.1) else Err refusals.HandleValue
 
 -- an authorisation by the empty password; its attributes may be any
 unfoldable pub authorisation_at : List ℕ → Result (Unit {0} × List ℕ) Refusal
@@ -98,7 +98,7 @@ authorisation_at bytes = do
   size ← number_at w32 refusals.AuthSize bytes
   area ← if nat_lt size.0 9 || nat_lt (length size.1) size.0 then Err refusals.AuthSize else Ok size.1
   session ← number_at w32 refusals.AuthSize area
-  nonce ← if session.0 == RS_PW then number_at w16 refusals.AuthSize session.1 else Err refusals.SessionValue
+  nonce ← if session.0 == rs_pw then number_at w16 refusals.AuthSize session.1 else Err refusals.SessionValue
   attributes ← if nonce.0 == 0 then number_at w8 refusals.AuthSize nonce.1 else Err refusals.AuthSize
   password ← number_at w16 refusals.AuthSize attributes.1
   if not (9 + password.0 == size.0) then Err refusals.AuthSize
@@ -168,11 +168,12 @@ pcr_extend_at bytes = do
 -- what stands after the header, by the command's code
 unfoldable pub parameters_at : Bool → ℕ → List ℕ → Result (Command × List ℕ) Refusal
 parameters_at has_saved code bytes =
-    if code == STARTUP then startup_at has_saved bytes
-    else if code == SHUTDOWN then shutdown_at bytes
-    else if code == GET_RANDOM then get_random_at bytes
-    else if code == PCR_READ then pcr_read_at bytes
-    else pcr_extend_at bytes
+    if code == cc_startup then startup_at has_saved bytes
+    else if code == cc_shutdown then shutdown_at bytes
+    else if code == cc_get_random then get_random_at bytes
+    else if code == cc_pcr_read then pcr_read_at bytes
+    else if code == cc_pcr_extend then pcr_extend_at bytes
+    else Err refusals.CommandCode
 
 -- the register is closed to the guest's locality
 abbrev pub is_closed : Option ℕ → Bool
@@ -192,5 +193,5 @@ unfoldable pub command_at : Bool → Bool → List ℕ → Result Command Refusa
 command_at started has_saved bytes = do
   seen ← head_at bytes
   head ← admitted started seen
-  read ← parameters_at has_saved head.code (drop 10 bytes)
+  read ← parameters_at has_saved head.code (drop header_size bytes)
   if length read.1 == 0 then lawful read.0 else Err refusals.ParameterSize

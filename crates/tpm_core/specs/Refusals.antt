@@ -1,13 +1,14 @@
 -- The response codes of refusals.
 use Rattle.std.specs.Prelude.{ℕ}
+use Rattle.tpm_frame.specs.Numbers.{rc_bad_tag, rc_command_size, rc_command_code}
 use Rattle.tpm_core.specs.declared.refusal.Refusal.{Refusal}
 use Rattle.tpm_core.specs.declared.refusal.Refusal.TheVariants.{BadTag, CommandSize, CommandCode, Initialize, AuthMissing, AuthContext, HandleCut, HandleValue, AuthSize, SessionValue, BadAuth, ParameterCut, ParameterValue, ParameterSize, ParameterHash, Locality}
 
--- the code by the TPM 2.0 Library; those of a handle, a session or a parameter tell that it is the first
+-- the code by the TPM 2.0 Library, Part 2 (6.6, TPM_RC); those of a handle, a session or a parameter have its number, the first
 abbrev pub code_of : Refusal → ℕ
-code_of BadTag = 0x1E
-code_of CommandSize = 0x142
-code_of CommandCode = 0x143
+code_of BadTag = rc_bad_tag
+code_of CommandSize = rc_command_size
+code_of CommandCode = rc_command_code
 code_of Initialize = 0x100
 code_of AuthMissing = 0x125
 code_of AuthContext = 0x145

@@ -1,6 +1,7 @@
 //! The values of a TPM.
 
 use crate::algorithm::SHA256_DIGEST_SIZE;
+use std::fmt;
 
 /// How many bytes a seed has.
 pub const SEED_SIZE: usize = 32;
@@ -18,7 +19,7 @@ pub const FIRST_DYNAMIC_PCR: usize = 17;
 pub const LAST_DYNAMIC_PCR: usize = 22;
 
 /// What a shutdown keeps for a start to bring back.
-#[derive(Clone, Copy)]
+#[derive(Clone, Copy, Debug, PartialEq, Eq)]
 pub struct SavedParts {
     /// How often registers were extended, modulo 2^32.
     pub counter: u32,
@@ -43,4 +44,16 @@ pub struct TpmParts {
     pub counter: u32,
     /// What the latest shutdown kept, where nothing has made it stale.
     pub saved: Option<SavedParts>,
+}
+
+// The seed is a secret and isn't shown.
+impl fmt::Debug for TpmParts {
+    fn fmt<W: fmt::Write>(&self, f: &mut fmt::Formatter<W>) -> fmt::Result {
+        let (boots, draws, started, counter) = (self.boots, self.draws, self.started, self.counter);
+        let saved = self.saved.is_some();
+        write!(
+            f,
+            "TpmParts {{ boots: {boots}, draws: {draws}, started: {started}, counter: {counter}, saved: {saved}, .. }}"
+        )
+    }
 }

@@ -260,7 +260,8 @@ impl Reader<'_> {
             SHUTDOWN => self.shutdown(),
             GET_RANDOM => self.get_random(),
             PCR_READ => self.pcr_read(),
-            _ => self.pcr_extend(),
+            PCR_EXTEND => self.pcr_extend(),
+            _ => Err(Refusal::CommandCode),
         }
     }
 }

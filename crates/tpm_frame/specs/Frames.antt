@@ -3,11 +3,12 @@ use Rattle.std.specs.Prelude.{◌≡◌, ℕ, ◌-◌, List, ◌++◌, take, dro
 use Rattle.std.specs.List.{concat}
 use Rattle.std.specs.Int.{w32, from_be_bytes}
 use Rattle.std.proofs.Common.{lit≤, arith}
+use Rattle.tpm_frame.specs.Numbers.{header_size, largest_frame}
 use Rattle.vt_base.specs.Layout.{Layout, Ends, Field, Spells, IsOpen, IsWithin}
 
 -- how long a frame is that begins so: the number in the last four of six bytes, at least 10 and at most 3968
 abbrev pub frame_length_of : List ℕ → ℕ
-frame_length_of head = min (max (from_be_bytes w32 (take 4 (drop 2 head))) 10) 3968
+frame_length_of head = min (max (from_be_bytes w32 (take 4 (drop 2 head))) header_size) largest_frame
 
 -- the frame at the front of these bytes, or all of them where it isn't whole
 abbrev pub first_frame : List ℕ → List ℕ
@@ -18,7 +19,7 @@ unfoldable pub frames : Layout (Unit {0})
 frames = Field 6 (λ head. Field (frame_length_of head - 6) (λ body. Ends tt))
 
 -- no frame has more bytes than the buffer
-pub frames_within : IsWithin frames 3968
+pub frames_within : IsWithin frames largest_frame
 unfolding frames
 frames_within = (lit≤ tt, λ head. (omega arith, λ _. tt))
 

@@ -1,10 +1,35 @@
 //! Laws of frames and of streams of them.
 
 ghost use Rattle.std.specs.Prelude.{◌≡◌, ◌++◌, ◌∷◌, [], List, ℕ};
+ghost use Rattle.tpm_frame.specs.Numbers.{st_no_sessions, st_sessions, st_rsp_command, cc_startup, cc_shutdown, cc_get_random, cc_pcr_read, cc_pcr_extend, rc_success, rc_bad_tag, rc_failure, rc_command_size, rc_command_code, rc_canceled, header_size, largest_frame};
 ghost use Rattle.tpm_frame.specs.Frames.{IsFrame, IsPart, AreCut};
 ghost use Rattle.tpm_frame.specs.Sizes.{IsWellSized};
 
+use crate::{
+    BAD_TAG, CANCELED, COMMAND_CODE, COMMAND_SIZE, FAILURE, GET_RANDOM, HEADER_SIZE, LARGEST_FRAME,
+    NO_SESSIONS, PCR_EXTEND, PCR_READ, RSP_COMMAND, SESSIONS, SHUTDOWN, STARTUP, SUCCESS,
+};
 use vt_base::ends_are_told_apart;
+
+/// The constants of this crate are the numbers of the standard.
+pub fn constants_are_the_standards()
+    ensures no_sessions { NO_SESSIONS ≡ st_no_sessions }
+    ensures sessions { SESSIONS ≡ st_sessions }
+    ensures rsp_command { RSP_COMMAND ≡ st_rsp_command }
+    ensures startup { STARTUP ≡ cc_startup }
+    ensures shutdown { SHUTDOWN ≡ cc_shutdown }
+    ensures get_random { GET_RANDOM ≡ cc_get_random }
+    ensures pcr_read { PCR_READ ≡ cc_pcr_read }
+    ensures pcr_extend { PCR_EXTEND ≡ cc_pcr_extend }
+    ensures success { SUCCESS ≡ rc_success }
+    ensures bad_tag { BAD_TAG ≡ rc_bad_tag }
+    ensures failure { FAILURE ≡ rc_failure }
+    ensures command_size { COMMAND_SIZE ≡ rc_command_size }
+    ensures command_code { COMMAND_CODE ≡ rc_command_code }
+    ensures canceled { CANCELED ≡ rc_canceled }
+    ensures header { HEADER_SIZE ≡ header_size }
+    ensures largest { LARGEST_FRAME ≡ largest_frame }
+{}
 
 /// Bytes whose size field is their length are a frame, where a frame may have so many.
 pub fn sized_bytes_are_frames()

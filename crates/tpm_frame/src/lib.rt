@@ -88,7 +88,8 @@ pub fn u32_at(bytes: &[u8], at: usize) -> u32
     u32::from_be_bytes([bytes[at], bytes[at + 1], bytes[at + 2], bytes[at + 3]])
 }
 
-fn is_tag(tag: u16) -> bool
+/// Whether this is the tag of a command: TPM_ST_NO_SESSIONS or TPM_ST_SESSIONS.
+pub fn is_tag(tag: u16) -> bool
     ensures { result ≡ is_tag tag }
 {
     tag == NO_SESSIONS || tag == SESSIONS

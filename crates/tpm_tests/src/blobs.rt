@@ -112,7 +112,7 @@ fn is_given_singly(tpm: &Tpm, kind: Kind, blob: &[u8]) -> bool
 
 /// Whether a gather takes a blob whole, and byte by byte with empty pieces between.
 fn is_gathered(gather: &mut Gather, blob: &[u8]) -> bool {
-    if gather.push(blob) != Ok(true) || !gather.is_whole() || gather.begun() != blob {
+    if gather.push(blob) != Ok(true) || !gather.is_whole() || gather.len() != blob.len() {
         return false;
     }
     gather.clear();
@@ -257,8 +257,8 @@ fn a_tpm_from_its_blobs(rt: HostRuntime) -> Result<(), Fail> {
 fn is_refused_singly(gather: &mut Gather, bytes: &[u8], fault: Malformed) -> bool {
     for i in 0..bytes.len() {
         match gather.push(&bytes[i..i + 1]) {
-            Ok(_) if gather.begun() == &bytes[..i + 1] => {}
-            Err(found) => return found == fault && gather.begun() == &bytes[..i],
+            Ok(_) if gather.len() == i + 1 => {}
+            Err(found) => return found == fault && gather.len() == i,
             Ok(_) => return false,
         }
     }
@@ -489,4 +489,18 @@ fn laws_may_be_called() {
     laws::values_are_told_once();
     laws::slices_join();
     laws::tpms_are_assembled_once();
+}
+
+#[test]
+fn text_of_a_fault(rt: HostRuntime) -> Result<(), Fail> {
+    let fault = BlobFault {
+        kind: Kind::Volatile,
+        fault: Malformed {
+            why: Why::Value,
+            place: 9,
+        },
+    };
+    let text = "the volatile blob is malformed at byte 9";
+    assert_eq!(rt; format!(in rt.alloc(); "{fault}")?.as_str(), text);
+    Ok(())
 }

@@ -477,3 +477,12 @@ fn laws_may_be_called() {
     laws::answers_are_responses();
     laws::first_eight_are_read();
 }
+
+#[test]
+fn a_seed_is_not_shown(rt: HostRuntime) -> Result<(), Fail> {
+    let tpm = Tpm::manufacture([7; SEED_SIZE]);
+    let parts = tpm.parts();
+    let text = "TpmParts { boots: 0, draws: 0, started: false, counter: 0, saved: false, .. }";
+    assert_eq!(rt; format!(in rt.alloc(); "{parts:?}")?.as_str(), text);
+    Ok(())
+}

@@ -4,7 +4,7 @@ use Rattle.std.specs.Prelude.{nat_lt}
 use Rattle.vt_base.specs.declared.words.Kind.{Kind}
 use Rattle.tpm_core.specs.declared.parts.TpmParts.{TpmParts}
 use Rattle.ctrl_codec.specs.declared.request.Request.TheVariants.{GetCapability, Init, Shutdown, GetEstablished, SetLocality, CancelCommand, StoreVolatile, ResetEstablished, GetStateBlob, SetStateBlob, Stop, GetConfig, SetBufferSize}
-use Rattle.ctrl_client.specs.declared.profile.TheConstants.{DELETE_VOLATILE}
+use Rattle.ctrl_client.specs.Numbers.{delete_volatile}
 use Rattle.ctrl_client.specs.Desk.{Desk, Turn, InitsBy, StartsBy, Assembled, TakesPiece, BlobTaken, started_here, blob_given, is_nothing, volatile_taken, kind_of}
 use Rattle.ctrl_client.specs.Link.{Heard, Hears}
 use Rattle.ctrl_client.specs.Link.Heard.{Asked, Refused}
@@ -55,7 +55,7 @@ given_leaves (Some kind) offset (Some t) d = either _ d _ _ refl refl
 
 pub hears_closing : (heard : Heard) (d : Desk) (turn : Turn) → d.closed ≡ false → Hears heard d turn → turn.desk.closed ≡ closes heard
 hears_closing (Asked GetCapability bytes) d turn listens is = same d turn _ is refl ∙ listens
-hears_closing (Asked (Init flags) bytes) d turn listens step = inits_leave (nat_lt DELETE_VOLATILE flags) flags d turn step ∙ listens
+hears_closing (Asked (Init flags) bytes) d turn listens step = inits_leave (nat_lt delete_volatile flags) flags d turn step ∙ listens
 hears_closing (Asked Shutdown bytes) d turn listens is = ap (λ (t : Turn). t.desk.closed) is
 hears_closing (Asked GetEstablished bytes) d turn listens is = same d turn _ is refl ∙ listens
 hears_closing (Asked (SetLocality locality) bytes) d turn listens is = same d turn _ is refl ∙ listens

@@ -6,7 +6,7 @@ use Rattle.tpm_core.specs.declared.parts.TpmParts.{TpmParts}
 use Rattle.state_blobs.specs.declared.words.BlobFault.{BlobFault}
 use Rattle.state_blobs.specs.Assembly.{IsAssembled, IsFault}
 use Rattle.ctrl_codec.specs.declared.request.Request.TheVariants.{GetCapability, Init, Shutdown, GetEstablished, SetLocality, CancelCommand, StoreVolatile, ResetEstablished, GetStateBlob, SetStateBlob, Stop, GetConfig, SetBufferSize}
-use Rattle.ctrl_client.specs.declared.profile.TheConstants.{SUCCESS, DELETE_VOLATILE}
+use Rattle.ctrl_client.specs.Numbers.{success, delete_volatile}
 use Rattle.ctrl_client.specs.Desk.{Desk, Turn, InitsBy, StartsBy, Assembled, TakesPiece, BlobTaken, is_nothing, volatile_taken, kind_of, resulted, switched_on, started_with}
 use Rattle.ctrl_client.specs.Link.{Heard, Hears}
 use Rattle.ctrl_client.specs.Link.Heard.{Asked, Refused}
@@ -27,7 +27,7 @@ taken_once false true type bytes d s t first second = piece_once (kind_of type) 
 module _ (once : (p v z : List ℕ) (a b : TpmParts) → IsAssembled p v z a → IsAssembled p v z b → a ≡ b) (not_both : (p v z : List ℕ) (a : TpmParts) (f : BlobFault) → IsAssembled p v z a → IsFault p v z f → ⊥) where
   assembled_once : (volatile : List ℕ) (d : Desk) (s t : Turn) → Assembled volatile d s → Assembled volatile d t → s ≡ t
   assembled_once volatile d s t (inl (a, whole, is)) (inl (b, again, was)) =
-      is ∙ ap (λ (tpm : TpmParts). resulted SUCCESS (switched_on (started_with volatile tpm) d)) (once d.gathers.permanent volatile d.gathers.saved a b whole again) ∙ sym was
+      is ∙ ap (λ (tpm : TpmParts). resulted success (switched_on (started_with volatile tpm) d)) (once d.gathers.permanent volatile d.gathers.saved a b whole again) ∙ sym was
   assembled_once volatile d s t (inl (a, whole, is)) (inr (fault, why, was)) = absurd (not_both d.gathers.permanent volatile d.gathers.saved a fault whole why)
   assembled_once volatile d s t (inr (fault, why, is)) (inl (a, whole, was)) = absurd (not_both d.gathers.permanent volatile d.gathers.saved a fault whole why)
   assembled_once volatile d s t (inr (fault, why, is)) (inr (other, again, was)) = is ∙ sym was
@@ -42,7 +42,7 @@ module _ (once : (p v z : List ℕ) (a b : TpmParts) → IsAssembled p v z a →
 
   pub hears_once : (heard : Heard) (d : Desk) (s t : Turn) → Hears heard d s → Hears heard d t → s ≡ t
   hears_once (Asked GetCapability bytes) d s t first second = first ∙ sym second
-  hears_once (Asked (Init flags) bytes) d s t first second = inits_once (nat_lt DELETE_VOLATILE flags) flags d s t first second
+  hears_once (Asked (Init flags) bytes) d s t first second = inits_once (nat_lt delete_volatile flags) flags d s t first second
   hears_once (Asked Shutdown bytes) d s t first second = first ∙ sym second
   hears_once (Asked GetEstablished bytes) d s t first second = first ∙ sym second
   hears_once (Asked (SetLocality locality) bytes) d s t first second = first ∙ sym second

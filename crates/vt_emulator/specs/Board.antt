@@ -7,7 +7,7 @@ use Rattle.state_blobs.specs.Gathering.{Gathering}
 use Rattle.ctrl_codec.specs.declared.request.Request.{Request}
 use Rattle.ctrl_codec.specs.declared.reply.Reply.TheVariants as reply
 use Rattle.ctrl_codec.specs.Replies.{reply_spelling}
-use Rattle.ctrl_client.specs.declared.profile.TheConstants.{SUCCESS, BAD_PARAMETER}
+use Rattle.ctrl_client.specs.Numbers.{success, bad_parameter}
 use Rattle.ctrl_client.specs.Link.{command_in}
 use Rattle.ctrl_client.specs.Desk.{Desk, Held, Turn, Obeys, kind_of, blob_given, no_blob, response_to, ran}
 
@@ -73,11 +73,11 @@ pub record BoardState : Type 0 where
 
 -- what GET_STATEBLOB comes to
 abbrev pub blob_turn : ℕ → ℕ → ℕ → Desk → Turn
-blob_turn flags type offset d = if flags == 0 then blob_given (kind_of type) offset d.tpm d else no_blob BAD_PARAMETER d
+blob_turn flags type offset d = if flags == 0 then blob_given (kind_of type) offset d.tpm d else no_blob bad_parameter d
 
 -- the same by its parts: what stands in a buffer of a piece that there is, or a result
 abbrev pub turn_of : Result Piece ℕ → List ℕ → Desk → Turn
-turn_of (Ok p) into d = record { desk = d; reply = reply.Blob SUCCESS 0 p.total p.length; payload = take p.length into }
+turn_of (Ok p) into d = record { desk = d; reply = reply.Blob success 0 p.total p.length; payload = take p.length into }
 turn_of (Err result) into d = no_blob result d
 
 -- A request was obeyed: one step of the emulator, and its reply.

@@ -6,7 +6,8 @@ use Rattle.tpm_core.specs.Steps.{IsFit}
 use Rattle.ctrl_codec.specs.Requests.{Asks, Refuses}
 use Rattle.ctrl_codec.specs.Replies.{reply_spelling}
 use Rattle.ctrl_codec.specs.declared.request.Request.TheVariants.{Shutdown}
-use Rattle.ctrl_client.specs.declared.profile.TheConstants.{LEAST_BUFFER, GREATEST_BUFFER, LARGEST_PIECE}
+use Rattle.ctrl_codec.specs.Numbers.{largest_data}
+use Rattle.ctrl_client.specs.Numbers.{least_buffer, greatest_buffer}
 use Rattle.ctrl_client.specs.Desk.{Desk, Held, Turn, no_gathers, holding, response_to, ran}
 use Rattle.ctrl_client.specs.Link.{Heard, heard_in, Hears, command_in}
 use Rattle.ctrl_client.specs.Link.Heard.{Asked, Refused}
@@ -20,7 +21,7 @@ pub record EmulatorState : Type 0 where
 -- an emulator with this TPM or none, switched off, that gives pieces of so many bytes, before the first message
 abbrev pub fresh_emulator : Option TpmParts → ℕ → EmulatorState
 fresh_emulator tpm piece = record {
-  desk = record { tpm = tpm; on = false; stored = false; gathers = no_gathers; piece = piece; buffer = GREATEST_BUFFER; held = None; closed = false };
+  desk = record { tpm = tpm; on = false; stored = false; gathers = no_gathers; piece = piece; buffer = greatest_buffer; held = None; closed = false };
   request = [];
   command = [];
 }
@@ -30,9 +31,9 @@ pub record IsSound (d : Desk) : Type 0 where
   pub fit : IfSome d.tpm IsFit
   pub powered : d.on ≡ true → IsSome d.tpm
   pub piece_least : 1 ≤ d.piece
-  pub piece_most : d.piece ≤ LARGEST_PIECE
-  pub buffer_least : LEAST_BUFFER ≤ d.buffer
-  pub buffer_most : d.buffer ≤ GREATEST_BUFFER
+  pub piece_most : d.piece ≤ largest_data
+  pub buffer_least : least_buffer ≤ d.buffer
+  pub buffer_most : d.buffer ≤ greatest_buffer
 
 -- where the state is told, it is told after a call too, and the call took this step
 abbrev pub Goes : (EmulatorState → EmulatorState → Type 0) → Option EmulatorState → Option EmulatorState → Type 0
