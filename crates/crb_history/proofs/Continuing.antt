@@ -18,9 +18,9 @@ use Rattle.crb_history.specs.Bytes.{bytes_at, command_in}
 use Rattle.crb_history.specs.Base.{Base}
 use Rattle.crb_history.specs.Event.{Event, History}
 use Rattle.crb_history.specs.Event.Event.{Read, Write, Claim, Sent, Exec, Finish, Ask, Reset, ResetLost}
-use Rattle.crb_history.specs.Device.{effect_of, phase_of, is_granted, is_cancel, registers_of, number_of, latest_number, started, latest_command, buffer, last_command, executed, stage_of, accepts, starts, byte_after, shows, phase_at_end}
+use Rattle.crb_history.specs.Device.{Stage, effect_of, phase_of, is_granted, is_cancel, registers_of, number_of, latest_number, started, latest_command, buffer, last_command, executed, stage_of, accepts, starts, byte_after, shows, phase_at_end}
 use Rattle.crb_history.specs.Device.Stage.{Waiting}
-use Rattle.crb_history.specs.Asked.{is_asked, sets_cancel}
+use Rattle.crb_history.specs.Asked.{is_asked, sets_cancel, held_back, asked_in_time, is_sent}
 use Rattle.crb_history.specs.Legal.{Legal, MayCome}
 use Rattle.crb_history.specs.Continued.{base_after, content_after, MaySuspend}
 use Rattle.crb_history.proofs.Bytes.{number_at-same, command_in-same}
@@ -28,20 +28,22 @@ use Rattle.crb_history.proofs.Phases.{executing-phase_after}
 use Rattle.crb_history.proofs.Held.{held-asked}
 
 -- what the TPM went through before doesn't tell two pasts apart
-abbrev Joins : Base → List Entry → Base → Type 0
+abbrev pub Joins : Base → List Entry → Base → Type 0
 Joins b sooner c = (later : List Entry) (command : List ℕ) → answer b.tpm (later ++ sooner) command ≡ answer c.tpm later command
 
 -- Two histories, each from its own values, that nothing tells apart from now on. The first has a past before the other's.
-record Agrees (b : Base) (p : History) (sooner : List Entry) (c : Base) (q : History) : Type 0 where
-  registers : registers_of b p ≡ registers_of c q
-  number : number_of b p ≡ number_of c q
-  bytes : (i : ℕ) → i < 3968 → buffer b p i ≡ buffer c q i
-  command : phase_of b p ≡ Execution → last_command b p ≡ last_command c q
-  stage : phase_of b p ≡ Execution → stage_of b p ≡ stage_of c q
-  asked : phase_of b p ≡ Execution → is_asked c q ≡ true → is_asked b p ≡ true
-  past : executed b p ≡ executed c q ++ sooner
+pub record Agrees (b : Base) (p : History) (sooner : List Entry) (c : Base) (q : History) : Type 0 where
+  pub registers : registers_of b p ≡ registers_of c q
+  pub number : number_of b p ≡ number_of c q
+  pub bytes : (i : ℕ) → i < 3968 → buffer b p i ≡ buffer c q i
+  pub command : phase_of b p ≡ Execution → last_command b p ≡ last_command c q
+  pub stage : phase_of b p ≡ Execution → stage_of b p ≡ stage_of c q
+  pub asked : phase_of b p ≡ Execution → is_asked c q ≡ true → is_asked b p ≡ true
+  pub past : executed b p ≡ executed c q ++ sooner
+  pub held : phase_of b p ≡ Execution → held_back b p ≡ held_back c q
+  pub in_time : phase_of b p ≡ Execution → asked_in_time b p ≡ asked_in_time c q
 
-phase_is : (b : Base) (p : History) (c : Base) (q : History) → registers_of b p ≡ registers_of c q → phase_of b p ≡ phase_of c q
+pub phase_is : (b : Base) (p : History) (c : Base) (q : History) → registers_of b p ≡ registers_of c q → phase_of b p ≡ phase_of c q
 phase_is b p c q same = ap (λ (r : Regs). r.phase) same
 
 granted_is : (b : Base) (p : History) (c : Base) (q : History) → registers_of b p ≡ registers_of c q → is_granted b p ≡ is_granted c q
@@ -125,7 +127,7 @@ not_idle is = cc
 not_lost : Lost ≡ Execution → ⊥
 not_lost is = cc
 
-executing-command : (b : Base) (h : History) → phase_of b h ≡ Execution → last_command b h ≡ command_in (buffer b h)
+pub executing-command : (b : Base) (h : History) → phase_of b h ≡ Execution → last_command b h ≡ command_in (buffer b h)
 executing-command b [] is = go (is_executing b.device.phase) (ap is_executing is)
   where
     go : (test : Bool) → test ≡ true → latest_command (if test then record { number = b.device.number; command = command_in (slice_index b.device.content) } ∷ [] else []) ≡ command_in (slice_index b.device.content)
@@ -173,6 +175,27 @@ right_true : (x y : Bool) → (x && y) ≡ true → y ≡ true
 right_true true y h = h
 right_true false y h = cc
 
+-- a cancel beside the registers counts only once the command was sent
+not_in_time : (b : Base) (h : History) → phase_of b h ≡ Execution → stage_of b h ≡ Waiting → asked_in_time b h ≡ false
+not_in_time b [] is waits = refl
+not_in_time b (Write a ∷ p) is waits = go (starts b p a) refl waits (not_in_time b p)
+  where
+    go : (test : Bool) → starts b p a ≡ test → cond test Waiting (stage_of b p) ≡ Waiting → (phase_of b p ≡ Execution → stage_of b p ≡ Waiting → asked_in_time b p ≡ false) → cond test false (asked_in_time b p) ≡ false
+    go true begins waits_now before = refl
+    go false other waits_now before = before (was_executing (effect_of a) (is_granted b p) (phase_of b p) is other) waits_now
+not_in_time b (Read a v ∷ p) is waits = not_in_time b p is waits
+not_in_time b (Claim ∷ p) is waits = cc
+not_in_time b (Sent ∷ p) is waits = refl
+not_in_time b (Exec ∷ p) is waits = cc
+not_in_time b (Ask arrived ∷ p) is waits = go (asked_in_time b p) arrived (stage_of b p) (not_in_time b p is waits) waits
+  where
+    go : (before came : Bool) (stage : Stage) → before ≡ false → stage ≡ Waiting → (before || (came && is_sent stage)) ≡ false
+    go before true stage none here = rw (none, here) refl
+    go before false stage none here = rw none refl
+not_in_time b (Finish outcome ∷ p) is waits = absurd (ended outcome (phase_of b p) is)
+not_in_time b (Reset ∷ p) is waits = cc
+not_in_time b (ResetLost ∷ p) is waits = cc
+
 agrees-start : (b : Base) (h : History) → MaySuspend b h → Agrees b h (executed b h) (base_after b h) []
 agrees-start b h may = record {
   registers = refl;
@@ -184,6 +207,8 @@ agrees-start b h may = record {
   stage = λ is. may.unclaimed is;
   asked = λ is held. held-asked b h (right_true _ _ held);
   past = refl;
+  held = λ is. ap (λ (phase : Phase). is_executing phase && held_back b h) (sym is);
+  in_time = λ is. not_in_time b h is (may.unclaimed is);
 }
 
 -- ---- one more event
@@ -202,7 +227,7 @@ shows-same b p sooner c q a i lt = go (nat_lt i 0x80)
     go true = ap (λ r. register_byte r i) (sym a.registers)
     go false = rw (phase, byte) refl
 
-cond_same : {A : Type 0} (t u : Bool) (x y v w : A) → u ≡ t → (t ≡ true → x ≡ v) → (t ≡ false → y ≡ w) → cond t x y ≡ cond u v w
+pub cond_same : {A : Type 0} (t u : Bool) (x y v w : A) → u ≡ t → (t ≡ true → x ≡ v) → (t ≡ false → y ≡ w) → cond t x y ≡ cond u v w
 cond_same true u x y v w same so other = rw same (so refl)
 cond_same false u x y v w same so other = rw same (other refl)
 
@@ -250,6 +275,16 @@ agrees-write b p sooner c q a g =
           (λ h. cancel ∙ h)
           (λ other h. or_implies (is_asked b p) (is_asked c q) (sets_cancel (effect_of a) && accepts b p a) (sets_cancel (effect_of a) && accepts c q a) (rw (granted, phase) refl) (g.asked (was_executing (effect_of a) (is_granted b p) (phase_of b p) is other)) h);
       past = g.past;
+      held = λ is. cond_same (starts b p a) (starts c q a) (is_cancel b p) _ (is_cancel c q) _ begins
+          (λ so. cancel)
+          (λ other.
+          let was : phase_of b p ≡ Execution = was_executing (effect_of a) (is_granted b p) (phase_of b p) is other in
+          let kept = g.held was in
+          let reached = g.stage was in
+          rw (granted, phase, kept, reached) refl);
+      in_time = λ is. cond_same (starts b p a) (starts c q a) false (asked_in_time b p) false (asked_in_time c q) begins
+          (λ so. refl)
+          (λ other. g.in_time (was_executing (effect_of a) (is_granted b p) (phase_of b p) is other));
     }
 
 -- the end of a command as done
@@ -268,6 +303,8 @@ agrees-done b p sooner c q joins g is =
       command = λ e. absurd (ended Done (phase_of b p) e);
       stage = λ e. absurd (ended Done (phase_of b p) e);
       asked = λ e. absurd (ended Done (phase_of b p) e);
+      held = λ e. absurd (ended Done (phase_of b p) e);
+      in_time = λ e. absurd (ended Done (phase_of b p) e);
       past = ap (λ x. Executed x ∷ executed b p) command ∙ ap (λ past. Executed (last_command c q) ∷ past) g.past;
     }
 
@@ -287,22 +324,27 @@ agrees-end b p sooner c q outcome g bytes past =
       command = λ e. absurd (ended outcome (phase_of b p) e);
       stage = λ e. absurd (ended outcome (phase_of b p) e);
       asked = λ e. absurd (ended outcome (phase_of b p) e);
+      held = λ e. absurd (ended outcome (phase_of b p) e);
+      in_time = λ e. absurd (ended outcome (phase_of b p) e);
       past = past;
     }
 
 -- one more event
 agrees-more : (b : Base) (p : History) (sooner : List Entry) (c : Base) (q : History) (e : Event) → Joins b sooner c → Agrees b p sooner c q → MayCome c q e → Agrees b (e ∷ p) sooner c (e ∷ q)
 agrees-more b p sooner c q (Write a) joins g may = agrees-write b p sooner c q a g
-agrees-more b p sooner c q (Read access value) joins g may = record { registers = g.registers; number = g.number; bytes = g.bytes; command = g.command; stage = g.stage; asked = g.asked; past = g.past }
-agrees-more b p sooner c q Claim joins g may = record { registers = g.registers; number = g.number; bytes = g.bytes; command = g.command; stage = λ is. refl; asked = g.asked; past = g.past }
-agrees-more b p sooner c q Sent joins g may = record { registers = g.registers; number = g.number; bytes = g.bytes; command = g.command; stage = λ is. refl; asked = g.asked; past = g.past }
-agrees-more b p sooner c q Exec joins g may = record { registers = g.registers; number = g.number; bytes = g.bytes; command = g.command; stage = λ is. refl; asked = g.asked; past = g.past }
-agrees-more b p sooner c q (Ask arrived) joins g may = record { registers = g.registers; number = g.number; bytes = g.bytes; command = g.command; stage = g.stage; asked = λ is h. or_implies (is_asked b p) (is_asked c q) arrived arrived refl (g.asked is) h; past = g.past }
+agrees-more b p sooner c q (Read access value) joins g may = record { registers = g.registers; number = g.number; bytes = g.bytes; command = g.command; stage = g.stage; asked = g.asked; past = g.past; held = g.held; in_time = g.in_time }
+agrees-more b p sooner c q Claim joins g may = record { registers = g.registers; number = g.number; bytes = g.bytes; command = g.command; stage = λ is. refl; asked = g.asked; past = g.past; held = g.held; in_time = g.in_time }
+agrees-more b p sooner c q Sent joins g may = record { registers = g.registers; number = g.number; bytes = g.bytes; command = g.command; stage = λ is. refl; asked = g.asked; past = g.past; held = g.held; in_time = λ is. refl }
+agrees-more b p sooner c q Exec joins g may = record { registers = g.registers; number = g.number; bytes = g.bytes; command = g.command; stage = λ is. refl; asked = g.asked; past = g.past; held = g.held; in_time = g.in_time }
+agrees-more b p sooner c q (Ask arrived) joins g may = record { registers = g.registers; number = g.number; bytes = g.bytes; command = g.command; stage = g.stage; asked = λ is h. or_implies (is_asked b p) (is_asked c q) arrived arrived refl (g.asked is) h; past = g.past; held = g.held; in_time = λ is. asks (g.in_time is) (g.stage is) }
+  where
+    asks : asked_in_time b p ≡ asked_in_time c q → stage_of b p ≡ stage_of c q → (asked_in_time b p || (arrived && is_sent (stage_of b p))) ≡ (asked_in_time c q || (arrived && is_sent (stage_of c q)))
+    asks before reached = rw (before, reached) refl
 agrees-more b p sooner c q (Finish Done) joins g may = agrees-done b p sooner c q joins g (phase_is b p c q g.registers ∙ may.executing)
 agrees-more b p sooner c q (Finish Cancelled) joins g may = agrees-end b p sooner c q Cancelled g (λ i lt. refl) g.past
 agrees-more b p sooner c q (Finish EndedLost) joins g may = agrees-end b p sooner c q EndedLost g g.bytes g.past
-agrees-more b p sooner c q Reset joins g may = record { registers = refl; number = g.number; bytes = λ i lt. refl; command = λ e. absurd (not_idle e); stage = λ e. absurd (not_idle e); asked = λ e. absurd (not_idle e); past = ap (λ past. PowerOn ∷ past) g.past }
-agrees-more b p sooner c q ResetLost joins g may = record { registers = refl; number = g.number; bytes = λ i lt. refl; command = λ e. absurd (not_lost e); stage = λ e. absurd (not_lost e); asked = λ e. absurd (not_lost e); past = g.past }
+agrees-more b p sooner c q Reset joins g may = record { registers = refl; number = g.number; bytes = λ i lt. refl; command = λ e. absurd (not_idle e); stage = λ e. absurd (not_idle e); asked = λ e. absurd (not_idle e); held = λ e. absurd (not_idle e); in_time = λ e. absurd (not_idle e); past = ap (λ past. PowerOn ∷ past) g.past }
+agrees-more b p sooner c q ResetLost joins g may = record { registers = refl; number = g.number; bytes = λ i lt. refl; command = λ e. absurd (not_lost e); stage = λ e. absurd (not_lost e); asked = λ e. absurd (not_lost e); past = g.past; held = λ e. absurd (not_lost e); in_time = λ e. absurd (not_lost e) }
 
 -- what may come in one may come in the other
 may-come : (b : Base) (p : History) (sooner : List Entry) (c : Base) (q : History) (e : Event) → Agrees b p sooner c q → MayCome c q e → MayCome b p e
@@ -318,7 +360,7 @@ may-come b p sooner c q (Ask arrived) g may = tt
 may-come b p sooner c q Reset g may = record { working = λ w. may.working (sym (phase_is b p c q g.registers) ∙ w); unclaimed = λ is. g.stage is ∙ may.unclaimed (sym (phase_is b p c q g.registers) ∙ is) }
 may-come b p sooner c q ResetLost g may = record { working = λ w. may.working (sym (phase_is b p c q g.registers) ∙ w); unclaimed = λ is. g.stage is ∙ may.unclaimed (sym (phase_is b p c q g.registers) ∙ is) }
 
-agrees : (b : Base) (h more : History) → Joins b (executed b h) (base_after b h) → MaySuspend b h → Legal (base_after b h) more → Agrees b (more ++ h) (executed b h) (base_after b h) more
+pub agrees : (b : Base) (h more : History) → Joins b (executed b h) (base_after b h) → MaySuspend b h → Legal (base_after b h) more → Agrees b (more ++ h) (executed b h) (base_after b h) more
 agrees b h [] joins may legal = agrees-start b h may
 agrees b h (e ∷ more) joins may legal = agrees-more b (more ++ h) (executed b h) (base_after b h) more e joins (agrees b h more joins may legal.0) legal.1
 

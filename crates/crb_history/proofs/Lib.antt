@@ -6,3 +6,5 @@ mod Lost
 pub mod Continuing
 pub mod Unordered
 mod Unlost
+mod Rejoining
+mod Ending

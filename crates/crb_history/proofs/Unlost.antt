@@ -15,7 +15,7 @@ use Rattle.crb_history.specs.Event.{History}
 use Rattle.crb_history.specs.Device.{phase_of, phase_at_end, stage_of, effect_of, is_granted, Stage}
 use Rattle.crb_history.specs.Device.Stage.{Waiting, Claimed, HasSent, HasRun}
 use Rattle.crb_history.specs.Replies.{Turning, turning_of, turn_at, is_under_way, with_event, none_fails, has_rest}
-use Rattle.crb_history.specs.Plain.{HasNoOrder, access_reply, plain_history}
+use Rattle.crb_history.specs.Plain.{ArePlain, access_reply, plain_history}
 use Rattle.crb_history.proofs.Phases.{Lost-phase_after}
 
 -- a command that ends as done or cancelled leaves the device
@@ -69,10 +69,10 @@ not_by_reset b p false true fails working = working
 not_by_reset b p false false fails working = λ lost. cc
 
 -- what became of the events doesn't rest on which calls are to fail, where the reply doesn't
-pub plain-working : (b : Base) (lines : List Line) → HasNoOrder lines → b.device.phase ≢ Lost → phase_of b (plain_history b lines) ≢ Lost
-plain-working b [] no_orders working = working
-plain-working b (AccessLine a ∷ earlier) no_orders working = not_by_access b (plain_history b earlier) a a.write _ (plain-working b earlier no_orders.0 working)
-plain-working b (Work ∷ earlier) no_orders working = not_by_work b (plain_history b earlier) (is_executing (phase_of b (plain_history b earlier))) (stage_of b (plain_history b earlier)) (turning_of b (plain_history b earlier)) _ (plain-working b earlier no_orders.0 working)
-plain-working b (AskLine ∷ earlier) no_orders working = plain-working b earlier no_orders.0 working
-plain-working b (ResetLine ∷ earlier) no_orders working = not_by_reset b (plain_history b earlier) (is_lost (phase_of b (plain_history b earlier))) (is_under_way b (plain_history b earlier)) _ (plain-working b earlier no_orders.0 working)
-plain-working b (Fail host call ∷ earlier) no_orders working = cc
+pub plain-working : (b : Base) (lines : List Line) → ArePlain lines → b.device.phase ≢ Lost → phase_of b (plain_history b lines) ≢ Lost
+plain-working b [] are_plain working = working
+plain-working b (AccessLine a ∷ earlier) are_plain working = not_by_access b (plain_history b earlier) a a.write _ (plain-working b earlier are_plain.0 working)
+plain-working b (Work ∷ earlier) are_plain working = not_by_work b (plain_history b earlier) (is_executing (phase_of b (plain_history b earlier))) (stage_of b (plain_history b earlier)) (turning_of b (plain_history b earlier)) _ (plain-working b earlier are_plain.0 working)
+plain-working b (AskLine ∷ earlier) are_plain working = plain-working b earlier are_plain.0 working
+plain-working b (ResetLine ∷ earlier) are_plain working = not_by_reset b (plain_history b earlier) (is_lost (phase_of b (plain_history b earlier))) (is_under_way b (plain_history b earlier)) _ (plain-working b earlier are_plain.0 working)
+plain-working b (Fail host call ∷ earlier) are_plain working = cc

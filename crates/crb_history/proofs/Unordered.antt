@@ -1,5 +1,5 @@
 -- Replies where no call on the wires is ordered to fail.
-use Rattle.std.proofs.Common.{◌≡◌, ℕ, ◌+◌, Bool, true, false, List, [], ◌∷◌, refl, ap, subst, ◌∙◌}
+use Rattle.std.proofs.Common.{◌≡◌, ℕ, ◌+◌, Bool, true, false, List, [], ◌∷◌, refl, ap, sym, subst, ◌∙◌}
 use Rattle.std.specs.Prelude.{if◌then◌else◌, Option, Some, None, IsSome, map}
 use Rattle.crb_regs.specs.Access.{Access}
 use Rattle.crb_regs.specs.Registers.{is_executing}
@@ -13,9 +13,9 @@ use Rattle.crb_history.specs.Device.{phase_of, stage_of, Stage}
 use Rattle.crb_history.specs.Device.Stage.{Waiting, Claimed, HasSent, HasRun}
 use Rattle.crb_history.specs.Legal.{Legal}
 use Rattle.crb_history.specs.Replies.{Exchange, Transcript, line_of, exchange, history, order_of, order_after, call_count, reaches, fails_within, is_fault, with_event, turn, turn_at, turning_of, reset_reply, ask_reply, none_fails, Answers, IsRun}
-use Rattle.crb_history.specs.Plain.{is_order, HasNoOrder, access_reply, plain_reply, plain}
+use Rattle.crb_history.specs.Plain.{is_plain, ArePlain, access_reply, plain_reply, plain}
 
--- a line that is no order, and its reply, leave none
+-- a plain line, and its reply, leave none
 pub still_none : (order : Option ℕ) (fault : Bool) → order ≡ None → (if fault then None else order) ≡ None
 still_none order true is = refl
 still_none order false is = is
@@ -57,13 +57,13 @@ turned b t replied.Reset = refl
 
 -- ---- the one run
 
--- a line that is no order, and its reply, leave none
-unordered-after : (line : Line) (reply : Reply) (order : Option ℕ) → is_order line ≡ false → order ≡ None → order_after (Some line) reply order ≡ None
-unordered-after (AccessLine a) reply order no_order none = still_none order (is_fault reply) none
-unordered-after Work reply order no_order none = still_none order (is_fault reply) none
-unordered-after AskLine reply order no_order none = still_none order (is_fault reply) none
-unordered-after ResetLine reply order no_order none = still_none order (is_fault reply) none
-unordered-after (Fail host call) reply order no_order none = cc
+-- a plain line, and its reply, leave none
+unordered-after : (line : Line) (reply : Reply) (order : Option ℕ) → is_plain line ≡ true → order ≡ None → order_after (Some line) reply order ≡ None
+unordered-after (AccessLine a) reply order plainly none = still_none order (is_fault reply) none
+unordered-after Work reply order plainly none = still_none order (is_fault reply) none
+unordered-after AskLine reply order plainly none = still_none order (is_fault reply) none
+unordered-after ResetLine reply order plainly none = still_none order (is_fault reply) none
+unordered-after (Fail host call) reply order plainly none = cc
 
 -- none of so many next calls fails
 nothing_fails : (b : Base) (t : Transcript) {A : Type 0} (f : (ℕ → Bool) → A) → order_of t ≡ None → f (fails_within b t) ≡ f none_fails
@@ -86,17 +86,17 @@ access_is b p fails a replied.Accepted None is answers legal = absurd (go a.writ
 access_is b p fails a replied.Accepted (Some w) is answers legal = refl
 access_is b p fails a _ write is answers legal = absurd answers
 
--- the reply to any line that is no order
-reply_is : (b : Base) (t : Transcript) (line : Line) (reply : Reply) → is_order line ≡ false → order_of t ≡ None
+-- the reply to any line that is plain
+reply_is : (b : Base) (t : Transcript) (line : Line) (reply : Reply) → is_plain line ≡ true → order_of t ≡ None
     → Answers b (history b t) (fails_within b t) (Some line) reply → Legal b (history b (exchange line reply ∷ t)) → reply ≡ plain_reply b (history b t) line
-reply_is b t (AccessLine a) reply no_order none answers legal = access_is b (history b t) (fails_within b t) a reply a.write refl answers legal
-reply_is b t Work reply no_order none answers legal = answers ∙ turn-none b t none
-reply_is b t AskLine reply no_order none answers legal = answers ∙ nothing_fails b t ask_reply none
-reply_is b t ResetLine reply no_order none answers legal = answers ∙ nothing_fails b t (reset_reply b (history b t)) none
-reply_is b t (Fail host call) reply no_order none answers legal = cc
+reply_is b t (AccessLine a) reply plainly none answers legal = access_is b (history b t) (fails_within b t) a reply a.write refl answers legal
+reply_is b t Work reply plainly none answers legal = answers ∙ turn-none b t none
+reply_is b t AskLine reply plainly none answers legal = answers ∙ nothing_fails b t ask_reply none
+reply_is b t ResetLine reply plainly none answers legal = answers ∙ nothing_fails b t (reset_reply b (history b t)) none
+reply_is b t (Fail host call) reply plainly none answers legal = cc
 
 -- a history of lines begins with that of the lines before the last
-legal-before : (b : Base) (line : Option Line) (reply : Reply) (fails : ℕ → Bool) (p : History) → Legal b (with_event line reply fails p) → Legal b p
+pub legal-before : (b : Base) (line : Option Line) (reply : Reply) (fails : ℕ → Bool) (p : History) → Legal b (with_event line reply fails p) → Legal b p
 legal-before b (Some (AccessLine a)) (replied.Value v s) fails p legal = legal.0
 legal-before b (Some (AccessLine a)) replied.Accepted fails p legal = legal.0
 legal-before b (Some Work) (replied.Claim n) fails p legal = legal.0
@@ -126,25 +126,52 @@ record IsPlain (b : Base) (lines : List Line) (t : Transcript) : Type 0 where
   same : t ≡ plain b lines
   none : order_of t ≡ None
 
-plain_by : (b : Base) (lines : List Line) (t : Transcript) → HasNoOrder lines → map line_of t ≡ map Some lines → IsRun b t → IsPlain b lines t
-plain_by b [] [] no_orders lines run = record { same = refl; none = refl }
-plain_by b [] (x ∷ t) no_orders lines run = cc
-plain_by b (line ∷ earlier) [] no_orders lines run = cc
-plain_by b (line ∷ earlier) (x ∷ t) no_orders lines run =
+plain_by : (b : Base) (lines : List Line) (t : Transcript) → ArePlain lines → map line_of t ≡ map Some lines → IsRun b t → IsPlain b lines t
+plain_by b [] [] are_plain lines run = record { same = refl; none = refl }
+plain_by b [] (x ∷ t) are_plain lines run = cc
+plain_by b (line ∷ earlier) [] are_plain lines run = cc
+plain_by b (line ∷ earlier) (x ∷ t) are_plain lines run =
     let is : x.line ≡ Some line = the_first x.line (Some line) _ _ lines in
-    let before : IsPlain b earlier t = plain_by b earlier t no_orders.0 (the_others x.line (Some line) _ _ lines)
+    let before : IsPlain b earlier t = plain_by b earlier t are_plain.0 (the_others x.line (Some line) _ _ lines)
     (record { legal = legal-before b x.line x.reply _ (history b t) run.legal; in_turn = run.in_turn.0 }) in
     let whole : x ≡ exchange line x.reply = exchange_is x line x.reply is refl in
-    let replies : x.reply ≡ plain_reply b (history b t) line = reply_is b t line x.reply no_orders.1 before.none
+    let replies : x.reply ≡ plain_reply b (history b t) line = reply_is b t line x.reply are_plain.1 before.none
     (subst (λ l. Answers b (history b t) (fails_within b t) l x.reply) is run.in_turn.1) (subst (λ y. Legal b (history b (y ∷ t))) whole run.legal) in
     record {
       same = ap (λ y. y ∷ t) (exchange_is x line (plain_reply b (history b t) line) is replies) ∙ ap (λ u. exchange line (plain_reply b (history b u) line) ∷ u) before.same;
-      none = ap (λ l. order_after l x.reply (order_of t)) is ∙ unordered-after line x.reply (order_of t) no_orders.1 before.none;
+      none = ap (λ l. order_after l x.reply (order_of t)) is ∙ unordered-after line x.reply (order_of t) are_plain.1 before.none;
     }
 
-pub run-plain : (b : Base) (lines : List Line) (t : Transcript) → HasNoOrder lines → map line_of t ≡ map Some lines → IsRun b t → t ≡ plain b lines
-run-plain b lines t no_orders same run = (plain_by b lines t no_orders same run).same
+pub run-plain : (b : Base) (lines : List Line) (t : Transcript) → ArePlain lines → map line_of t ≡ map Some lines → IsRun b t → t ≡ plain b lines
+run-plain b lines t are_plain same run = (plain_by b lines t are_plain same run).same
 
-pub plain-unordered : (b : Base) (lines : List Line) → HasNoOrder lines → order_of (plain b lines) ≡ None
-plain-unordered b [] no_orders = refl
-plain-unordered b (line ∷ earlier) no_orders = unordered-after line (plain_reply b (history b (plain b earlier)) line) (order_of (plain b earlier)) no_orders.1 (plain-unordered b earlier no_orders.0)
+pub plain-unordered : (b : Base) (lines : List Line) → ArePlain lines → order_of (plain b lines) ≡ None
+plain-unordered b [] are_plain = refl
+plain-unordered b (line ∷ earlier) are_plain = unordered-after line (plain_reply b (history b (plain b earlier)) line) (order_of (plain b earlier)) are_plain.1 (plain-unordered b earlier are_plain.0)
+
+-- ---- each run is the only one over its lines
+
+-- two replies to one line, after the same lines and replies, are one
+one-reply : (b : Base) (p : History) (fails : ℕ → Bool) (line : Option Line) (one two : Reply)
+    → Answers b p fails line one → Legal b (with_event line one fails p) → Answers b p fails line two → Legal b (with_event line two fails p) → one ≡ two
+one-reply b p fails None one two x legal y other = absurd x
+one-reply b p fails (Some (AccessLine a)) one two x legal y other = access_is b p fails a one a.write refl x legal ∙ sym (access_is b p fails a two a.write refl y other)
+one-reply b p fails (Some Work) one two x legal y other = x ∙ sym y
+one-reply b p fails (Some AskLine) one two x legal y other = x ∙ sym y
+one-reply b p fails (Some ResetLine) one two x legal y other = x ∙ sym y
+one-reply b p fails (Some (Fail host call)) one two x legal y other = x ∙ sym y
+
+pub run-alone : (b : Base) (t u : Transcript) → map line_of t ≡ map line_of u → IsRun b t → IsRun b u → t ≡ u
+run-alone b [] [] same one two = refl
+run-alone b [] (y ∷ u) same one two = cc
+run-alone b (x ∷ t) [] same one two = cc
+run-alone b (x ∷ t) (y ∷ u) same one two =
+    let is : x.line ≡ y.line = the_first x.line y.line _ _ same in
+    let before : t ≡ u = run-alone b t u (the_others x.line y.line _ _ same)
+    (record { legal = legal-before b x.line x.reply _ (history b t) one.legal; in_turn = one.in_turn.0 })
+    (record { legal = legal-before b y.line y.reply _ (history b u) two.legal; in_turn = two.in_turn.0 }) in
+    let answers = subst (λ (l : Option Line). Answers b (history b t) (fails_within b t) l y.reply) (sym is) (subst (λ (v : Transcript). Answers b (history b v) (fails_within b v) y.line y.reply) (sym before) two.in_turn.1) in
+    let legal = subst (λ (l : Option Line). Legal b (with_event l y.reply (fails_within b t) (history b t))) (sym is) (subst (λ (v : Transcript). Legal b (with_event y.line y.reply (fails_within b v) (history b v))) (sym before) two.legal) in
+    let replies : x.reply ≡ y.reply = one-reply b (history b t) (fails_within b t) x.line x.reply y.reply one.in_turn.1 one.legal answers legal in
+    let parts : x ≡ y = ap (λ (l : Option Line). record { line = l; reply = x.reply }) is ∙ ap (λ (r : Reply). record { line = y.line; reply = r }) replies in
+    ap (λ z. z ∷ t) parts ∙ ap (λ v. y ∷ v) before

@@ -4,7 +4,6 @@ use Rattle.crb_regs.specs.LittleEndian.{byte_of}
 use Rattle.crb_regs.specs.Access.{Access}
 use Rattle.crb_regs.specs.Effects.{effect}
 use Rattle.crb_regs.specs.Registers.{register_byte, is_executing}
-use Rattle.crb_regs.specs.declared.registers.TheConstants.{DATA_BUFFER}
 use Rattle.crb_regs.specs.declared.registers.Regs.{Regs}
 use Rattle.crb_regs.specs.declared.phase.Phase.{Phase}
 use Rattle.crb_regs.specs.declared.phase.Phase.TheVariants.{Idle, Execution, Completion, Lost}
@@ -88,11 +87,11 @@ abbrev pub latest_command : List Start → List ℕ
 latest_command [] = []
 latest_command (start ∷ past) = start.command
 
--- a byte of the buffer after an accepted write, by what it was
+-- a byte of the buffer, which begins at 0x80 of the page, after an accepted write, by what it was
 abbrev pub byte_after : Effect → Access → ℕ → ℕ → ℕ
 byte_after Buffer a i was =
-    if nat_le a.offset (DATA_BUFFER + i) && nat_lt (DATA_BUFFER + i) (a.offset + a.size)
-    then byte_of (written_value a) (DATA_BUFFER + i - a.offset)
+    if nat_le a.offset (0x80 + i) && nat_lt (0x80 + i) (a.offset + a.size)
+    then byte_of (written_value a) (0x80 + i - a.offset)
     else was
 byte_after CmdReady a i was = 0
 byte_after GoIdle a i was = 0
@@ -147,9 +146,9 @@ registers_of b p = record { granted = is_granted b p; cancel = is_cancel b p; ph
 -- the byte of the page that a guest reads
 abbrev pub shows : Base → History → ℕ → ℕ
 shows b p at =
-    if nat_lt at DATA_BUFFER
+    if nat_lt at 0x80
     then register_byte (registers_of b p) at
-    else buffer_byte (phase_of b p) (buffer b p (at - DATA_BUFFER))
+    else buffer_byte (phase_of b p) (buffer b p (at - 0x80))
 
 -- how far the last command has come
 pub data Stage : Type 0 where

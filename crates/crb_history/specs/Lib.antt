@@ -5,6 +5,8 @@ pub mod Device
 pub mod Asked
 pub mod Legal
 pub mod Replies
+pub mod OneHost
 pub mod Counts
 pub mod Continued
 pub mod Plain
+pub mod Endings

@@ -11,15 +11,18 @@ use Rattle.crb_history.specs.Event.{History}
 use Rattle.crb_history.specs.Device.{shows}
 use Rattle.crb_history.specs.Replies.{Transcript, exchange, history, turn, reset_reply, none_fails}
 
--- the line lets a call fail
-abbrev pub is_order : Line → Bool
-is_order (Fail host call) = true
-is_order _ = false
+-- the line is the guest's or the worker's, a cancel beside the registers, or a reset: it lets no call fail
+abbrev pub is_plain : Line → Bool
+is_plain (AccessLine a) = true
+is_plain Work = true
+is_plain Ask = true
+is_plain Reset = true
+is_plain (Fail host call) = false
 
--- none of the lines does
-abbrev pub HasNoOrder : List Line → Type 0
-HasNoOrder [] = ⊤
-HasNoOrder (line ∷ earlier) = HasNoOrder earlier × (is_order line ≡ false)
+-- each line is
+abbrev pub ArePlain : List Line → Type 0
+ArePlain [] = ⊤
+ArePlain (line ∷ earlier) = ArePlain earlier × (is_plain line ≡ true)
 
 -- the reply to an access, by whether it writes: a read gives what the page shows
 abbrev pub access_reply : Base → History → Access → Option ℕ → Reply

@@ -36,14 +36,29 @@ exchange line reply = record { line = Some line; reply = reply }
 
 -- whether the reply says that a call failed
 abbrev pub is_fault : Reply → Bool
+is_fault (replied.Value value size) = false
+is_fault replied.Accepted = false
+is_fault replied.Idle = false
+is_fault (replied.Claim number) = false
+is_fault (replied.Sent number) = false
+is_fault (replied.Exec number) = false
+is_fault (replied.Done number) = false
+is_fault (replied.Cancelled number) = false
 is_fault (replied.Lost number) = true
 is_fault replied.Link = true
-is_fault _ = false
+is_fault replied.Asked = false
+is_fault replied.FailedDevice = false
+is_fault replied.NotYet = false
+is_fault replied.Reset = false
 
 -- the order after a line and its reply: a later one takes its place, and a fault ends it
 abbrev pub order_after : Option Line → Reply → Option ℕ → Option ℕ
+order_after (Some (Access a)) reply order = if is_fault reply then None else order
+order_after (Some Work) reply order = if is_fault reply then None else order
+order_after (Some AskLine) reply order = if is_fault reply then None else order
+order_after (Some ResetLine) reply order = if is_fault reply then None else order
 order_after (Some (Fail host call)) reply order = Some call
-order_after _ reply order = if is_fault reply then None else order
+order_after None reply order = if is_fault reply then None else order
 
 -- the number of the call that is to fail, where an order stands
 abbrev pub order_of : Transcript → Option ℕ
@@ -59,9 +74,14 @@ abbrev pub calls_of : Option Line → Reply → ℕ → ℕ
 calls_of (Some Work) (replied.Sent number) size = 1
 calls_of (Some Work) (replied.Exec number) size = 1
 calls_of (Some Work) (replied.Done number) size = if has_rest size then 1 else 0
+calls_of (Some Work) _ size = 0
 calls_of (Some AskLine) replied.Asked size = 2
+calls_of (Some AskLine) _ size = 0
 calls_of (Some ResetLine) replied.Reset size = 2
-calls_of _ _ size = 0
+calls_of (Some ResetLine) _ size = 0
+calls_of (Some (Access a)) reply size = 0
+calls_of (Some (Fail host call)) reply size = 0
+calls_of None reply size = 0
 
 -- the calls since the last order's line, with those for one line more
 abbrev pub count_after : Option Line → Reply → ℕ → ℕ → ℕ
@@ -84,17 +104,22 @@ none_fails calls = false
 abbrev pub with_event : Option Line → Reply → (ℕ → Bool) → History → History
 with_event (Some (Access a)) (replied.Value value size) fails p = Read a value ∷ p
 with_event (Some (Access a)) replied.Accepted fails p = Write a ∷ p
+with_event (Some (Access a)) _ fails p = p
 with_event (Some Work) (replied.Claim number) fails p = Claim ∷ p
 with_event (Some Work) (replied.Sent number) fails p = Sent ∷ p
 with_event (Some Work) (replied.Exec number) fails p = Exec ∷ p
 with_event (Some Work) (replied.Done number) fails p = Finish Done ∷ p
 with_event (Some Work) (replied.Cancelled number) fails p = Finish Cancelled ∷ p
 with_event (Some Work) (replied.Lost number) fails p = Finish Lost ∷ p
+with_event (Some Work) _ fails p = p
 with_event (Some AskLine) replied.Asked fails p = Ask true ∷ p
 with_event (Some AskLine) replied.Link fails p = Ask (not (fails 1)) ∷ p
+with_event (Some AskLine) _ fails p = p
 with_event (Some ResetLine) replied.Reset fails p = Reset ∷ p
 with_event (Some ResetLine) replied.Link fails p = ResetLost ∷ p
-with_event _ _ fails p = p
+with_event (Some ResetLine) _ fails p = p
+with_event (Some (Fail host call)) reply fails p = p
+with_event None reply fails p = p
 
 -- the length of the response to the last command
 abbrev pub response_length : Base → History → ℕ

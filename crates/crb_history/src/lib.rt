@@ -10,6 +10,6 @@
 mod laws;
 
 pub use laws::{
-    done_is_executed_once, histories_continue, lost_stays_lost, numbers_count_starts,
-    plain_runs_are_one,
+    commands_end, done_is_executed_once, histories_continue, lost_stays_lost, numbers_count_starts,
+    plain_runs_are_one, runs_are_one, runs_continue,
 };

@@ -23,7 +23,7 @@ use Rattle.state_blobs.specs.Texts.{magic_of, is_length, flag_fits}
 use Rattle.state_blobs.specs.Blobs.{body_then, after_magic, blob}
 use Rattle.state_blobs.specs.Refusals.{length_field}
 use Rattle.crb_history.specs.Base.{Base}
-use Rattle.saved_stream.specs.declared.format.TheConstants.{VERSION}
+use Rattle.saved_stream.specs.Numbers.{format_version}
 use Rattle.saved_stream.specs.declared.part.Part.{Part}
 use Rattle.saved_stream.specs.declared.part.Part.TheVariants.{Record, Blob}
 use Rattle.saved_stream.specs.Parts.{parts, IsWhole}
@@ -43,7 +43,7 @@ record IsHeaded (part : Part) (bytes : List ℕ) : Type 0 where
 
 -- ---- a blob
 
-begins_blob : (kind : Kind) (rest : List ℕ) → begins (magic_of kind) (magic_of kind ++ VERSION ∷ rest) ≡ true
+begins_blob : (kind : Kind) (rest : List ℕ) → begins (magic_of kind) (magic_of kind ++ format_version ∷ rest) ≡ true
 begins_blob Permanent rest = refl
 begins_blob Volatile rest = refl
 begins_blob Saved rest = refl
@@ -58,22 +58,22 @@ unfolding blob
 headed_blob kind bytes spelled =
     let marks = marks_told (magic_of kind) 0 (after_magic kind) bytes spelled in
     let next = number_then (λ count. cond (is_length kind count) (body_then kind count) (refuse Length 5)) in
-    let version = mark_told VERSION Version 4 next tt marks.0 marks.2 in
+    let version = mark_told format_version Version 4 next tt marks.0 marks.2 in
     let rest : List ℕ = version.0 in
     let count : ℕ = from_be_bytes w32 (take 4 rest) in
     let allowed = passed (is_length kind count) (body_then kind count) (malformed Length 5) tt (drop 4 rest) version.2.1 in
     let body = passed (flag_fits kind count (get_or (take 1 (drop 4 rest)) 0 0)) (Field (count - 1) (λ _. Ends (Ok tt))) (malformed Value 9) tt (drop 1 (drop 4 rest)) allowed.1.1 in
-    let all : bytes ≡ (magic_of kind ++ VERSION ∷ []) ++ rest = marks.1 ∙ ap (λ (t : List ℕ). magic_of kind ++ t) version.1 in
-    let front : take 9 bytes ≡ magic_of kind ++ VERSION ∷ take 4 rest = ap (take 9) all in
+    let all : bytes ≡ (magic_of kind ++ format_version ∷ []) ++ rest = marks.1 ∙ ap (λ (t : List ℕ). magic_of kind ++ t) version.1 in
+    let front : take 9 bytes ≡ magic_of kind ++ format_version ∷ take 4 rest = ap (take 9) all in
     let field : length_field (take 9 bytes) ≡ count = ap length_field front ∙ ap (λ (t : List ℕ). from_be_bytes w32 t) (take_four rest version.2.0) in
     let ends : drop (count - 1) (drop 1 (drop 4 rest)) ≡ [] = body.1.1.1 in
     record {
-      long = omega (arith, ap length all, version.2.0, length-append (magic_of kind ++ VERSION ∷ []) rest);
+      long = omega (arith, ap length all, version.2.0, length-append (magic_of kind ++ format_version ∷ []) rest);
       is = both (begins (magic_of kind) (take 9 bytes)) (is_length kind (length_field (take 9 bytes))) (ap (begins (magic_of kind)) front ∙ begins_blob kind (take 4 rest)) (ap (is_length kind) field ∙ allowed.0);
       size = omega (
         arith,
         ap length all,
-        length-append (magic_of kind ++ VERSION ∷ []) rest,
+        length-append (magic_of kind ++ format_version ∷ []) rest,
         field,
         ap length ends,
         length-drop (count - 1) (drop 1 (drop 4 rest)),
@@ -102,7 +102,7 @@ unfolding record_text
 headed_record bytes v few is =
     let count : ℕ = length (trimmed v.content) in
     let size : length bytes ≡ 23 + count = ap length is.spelled ∙ length-append (records.header_text (records.fields_of v)) (trimmed v.content) in
-    let front : take 9 bytes ≡ records.magic ++ VERSION ∷ number (14 + count) = ap (take 9) is.spelled in
+    let front : take 9 bytes ≡ records.magic ++ format_version ∷ number (14 + count) = ap (take 9) is.spelled in
     let field : length_field (take 9 bytes) ≡ 14 + count = ap length_field front ∙ from_be_bytes-to_be_bytes_4 (14 + count) (omega (arith, size, few)) in
     let begun : begins records.magic (take 9 bytes) ≡ true = ap (begins records.magic) front in
     let may : may_follow Record (length_field (take 9 bytes)) ≡ true = ap (may_follow Record) field ∙ may_record count (omega (arith, size, few)) in

@@ -16,7 +16,7 @@ use Rattle.vt_base.proofs.Layouts.{open_wants, spells_front, wants_within, wants
 use Rattle.vt_base.specs.Marks.{marks_then}
 use Rattle.vt_base.proofs.Marks.{mark_spells, marks_spell}
 use Rattle.state_blobs.specs.Blobs.{Ending}
-use Rattle.saved_stream.specs.declared.format.TheConstants.{VERSION}
+use Rattle.saved_stream.specs.Numbers.{format_version}
 use Rattle.saved_stream.specs.Streams.{magic}
 use Rattle.saved_stream.specs.Refusals.{version_then, head, IsHeadRefusedFor, IsHeadRefused, HasHead}
 
@@ -59,7 +59,7 @@ marks_told (mark ∷ marks) place next bytes spelled =
 
 -- the magic and the version
 abbrev pub begin : List ℕ
-begin = magic ++ VERSION ∷ []
+begin = magic ++ format_version ∷ []
 
 -- a refusal of the head is no cut, and tells of nothing behind it
 abbrev pub IsOfHead : Malformed → Type 0
@@ -70,7 +70,7 @@ unfolding head
 head_refuses =
     λ b. either_refuses IsOfHead (eqb (get_or b 0 0) 67) _ (refuse Magic 0) (λ b. either_refuses IsOfHead (eqb (get_or b 0 0) 82) _ (refuse Magic 1)
     (λ b. either_refuses IsOfHead (eqb (get_or b 0 0) 66) _ (refuse Magic 2) (λ b. either_refuses IsOfHead (eqb (get_or b 0 0) 83) _ (refuse Magic 3)
-    (λ b. either_refuses IsOfHead (eqb (get_or b 0 0) VERSION) _ (refuse Version 4) (λ _. tt) (λ e. cc, λ e. cc)) magic_refused) magic_refused) magic_refused) magic_refused
+    (λ b. either_refuses IsOfHead (eqb (get_or b 0 0) format_version) _ (refuse Version 4) (λ _. tt) (λ e. cc, λ e. cc)) magic_refused) magic_refused) magic_refused) magic_refused
   where
     magic_refused : (Magic ≢ Cut) × (Magic ≢ Extra)
     magic_refused = (λ e. cc, λ e. cc)
@@ -79,7 +79,7 @@ head_within : IsWithin head 9
 unfolding head
 head_within =
     mark_within 67 Magic 0 _ 9 (lit≤ tt) (mark_within 82 Magic 1 _ 8 (lit≤ tt) (mark_within 66 Magic 2 _ 7 (lit≤ tt) (mark_within 83 Magic 3 _ 6 (lit≤ tt)
-    (mark_within VERSION Version 4 _ 5 (lit≤ tt) (lit≤ tt, λ _. tt)))))
+    (mark_within format_version Version 4 _ 5 (lit≤ tt) (lit≤ tt, λ _. tt)))))
 
 -- the length, of which nothing is judged
 abbrev length_then : Layout Ending
@@ -92,7 +92,7 @@ pub head_told : (bytes : List ℕ) → Spells head (Ok tt) bytes → (rest : Lis
 unfolding head
 head_told bytes spelled =
     let marks = marks_told magic 0 version_then bytes spelled in
-    let version = mark_told VERSION Version 4 length_then tt marks.0 marks.2 in
+    let version = mark_told format_version Version 4 length_then tt marks.0 marks.2 in
     let none : drop 4 version.0 ≡ [] = version.2.1.1 in
     (version.0, marks.1 ∙ ap (λ (t : List ℕ). magic ++ t) version.1, omega (arith, version.2.0, ap length none, length-drop 4 version.0))
 
@@ -104,7 +104,7 @@ head_spells bytes h =
     let front : take 9 bytes ≡ begin ++ field = take-add 5 4 bytes ∙ ap (λ (f : List ℕ). f ++ take 4 (drop 5 bytes)) h.begins in
     let size : length field ≡ 4 = omega (arith, length-take 4 (drop 5 bytes), length-drop 5 bytes, h.long) in
     let last : Spells length_then (Ok tt) field = (omega (arith, size), (refl, drop_all 4 field (omega (arith, size)))) in
-    subst (Spells head (Ok tt)) (sym front) (marks_spell magic 0 version_then (Ok tt) (VERSION ∷ field) (mark_spells VERSION Version 4 length_then (Ok tt) field last))
+    subst (Spells head (Ok tt)) (sym front) (marks_spell magic 0 version_then (Ok tt) (format_version ∷ field) (mark_spells format_version Version 4 length_then (Ok tt) field last))
 
 -- ---- for the judge
 

@@ -18,7 +18,7 @@ use Rattle.state_blobs.specs.Texts.{text_of, IsBlob}
 use Rattle.state_blobs.specs.Refusals.{length_field}
 use Rattle.state_blobs.specs.Assembly.{TellsVolatile, TellsSaved, IsAssembled, Disagrees, IsFaultFor, IsFault}
 use Rattle.crb_history.specs.Base.{Base}
-use Rattle.saved_stream.specs.declared.format.TheConstants.{VERSION}
+use Rattle.saved_stream.specs.Numbers.{format_version}
 use Rattle.saved_stream.specs.declared.reading.Places.{Places}
 use Rattle.saved_stream.specs.Streams.{magic, framed, parts_text, stream_text, IsStream}
 use Rattle.saved_stream.specs.Refusals.{moved, HasHead, HasParts, total, place_of_saved, IsWholeRefused, IsStreamRefused}
@@ -88,7 +88,7 @@ parts_told bytes at v tpm a is made =
     rw (is.spelled, made.is_permanent, volatile, saved) refl
 
 abbrev begin : List ℕ
-begin = magic ++ VERSION ∷ []
+begin = magic ++ format_version ∷ []
 
 -- What stands up to the end of the parts is a stream, if the length is theirs.
 pub stream_front : (bytes : List ℕ) (at : Places) (v : DeviceValues) (tpm : TpmParts) → IsBytes bytes → HasHead bytes → AreAt bytes at → length_field bytes ≡ at.end - 9 → IsRecord (between bytes 9 at.permanent) v

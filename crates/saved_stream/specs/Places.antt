@@ -2,7 +2,7 @@
 use Rattle.std.specs.Prelude.{◌≡◌, ℕ, ◌+◌, ◌-◌, ◌≤◌, ◌⊎◌, List, length}
 use Rattle.vt_base.specs.declared.words.Kind.TheVariants.{Permanent, Volatile, Saved}
 use Rattle.crb_machine.specs.Values.{held_values}
-use Rattle.crb_machine.specs.declared.parts.DeviceParts.{DeviceParts}
+use Rattle.crb_machine.specs.Model.{DeviceModel}
 use Rattle.device_record.specs.Records.{IsRecord}
 use Rattle.state_blobs.specs.Texts.{slice}
 use Rattle.saved_stream.specs.declared.part.Part.{Part}
@@ -29,5 +29,5 @@ pub record AreAt (bytes : List ℕ) (at : Places) : Type 0 where
   pub saved : IsPartAt (Blob Saved) bytes at.saved at.end
 
 -- A device that bytes were refused for: it is as it was, or has the values of the record behind the head.
-abbrev pub IsLeft : {P : Type 0} → List ℕ → DeviceParts P → DeviceParts P → Type 0
+abbrev pub IsLeft : {P : Type 0} → List ℕ → DeviceModel P → DeviceModel P → Type 0
 IsLeft bytes old new = (new ≡ old) ⊎ ((end : ℕ) × IsRecord (between bytes 9 end) (held_values new))

@@ -12,7 +12,7 @@ use Rattle.state_blobs.specs.Blobs.{Ending}
 use Rattle.state_blobs.specs.Refusals.{length_field}
 use Rattle.state_blobs.specs.Assembly.{Disagrees}
 use Rattle.crb_history.specs.Base.{Base}
-use Rattle.saved_stream.specs.declared.format.TheConstants.{VERSION}
+use Rattle.saved_stream.specs.Numbers.{format_version}
 use Rattle.saved_stream.specs.declared.part.Part.{Part}
 use Rattle.saved_stream.specs.declared.part.Part.TheVariants.{Record, Blob}
 use Rattle.saved_stream.specs.Parts.{parts, IsWhole, IsPartRefused}
@@ -22,7 +22,7 @@ use Rattle.saved_stream.specs.Streams.{magic, IsStream}
 
 -- the version, and a length, which is compared only once the parts are whole
 abbrev pub version_then : Layout Ending
-version_then = mark_then VERSION Version 4 (Field 4 (λ length. Ends (Ok tt)))
+version_then = mark_then format_version Version 4 (Field 4 (λ length. Ends (Ok tt)))
 
 -- a head
 unfoldable pub head : Layout Ending
@@ -39,7 +39,7 @@ IsHeadRefused fault bytes = IsHeadRefusedFor fault.why fault.place bytes
 -- a head is whole, whatever its length
 pub record HasHead (bytes : List ℕ) : Type 0 where
   pub long : 9 ≤ length bytes
-  pub begins : take 5 bytes ≡ magic ++ VERSION ∷ []
+  pub begins : take 5 bytes ≡ magic ++ format_version ∷ []
 
 -- ---- the parts
 

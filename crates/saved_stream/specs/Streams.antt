@@ -5,7 +5,7 @@ use Rattle.vt_base.specs.declared.words.Kind.TheVariants.{Permanent, Volatile, S
 use Rattle.device_record.specs.Records.{record_text}
 use Rattle.state_blobs.specs.Texts.{text_of}
 use Rattle.crb_history.specs.Base.{Base, IsFitBase}
-use Rattle.saved_stream.specs.declared.format.TheConstants.{VERSION}
+use Rattle.saved_stream.specs.Numbers.{format_version}
 
 -- C, R, B, S
 abbrev pub magic : List ℕ
@@ -13,7 +13,7 @@ magic = 67 ∷ 82 ∷ 66 ∷ 83 ∷ []
 
 -- the bytes behind a head: the magic, the version, and how many bytes follow
 abbrev pub framed : List ℕ → List ℕ
-framed bytes = magic ++ VERSION ∷ [] ++ number (length bytes) ++ bytes
+framed bytes = magic ++ format_version ∷ [] ++ number (length bytes) ++ bytes
 
 -- the record of the device, and the three blobs of the TPM
 abbrev pub parts_text : Base → List ℕ

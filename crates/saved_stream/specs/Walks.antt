@@ -7,7 +7,7 @@ use Rattle.vt_base.specs.Verdict.{judged}
 use Rattle.device_record.specs.Records as records
 use Rattle.state_blobs.specs.Texts.{magic_of, is_length}
 use Rattle.state_blobs.specs.Refusals.{length_field}
-use Rattle.saved_stream.specs.declared.format.TheConstants.{VERSION}
+use Rattle.saved_stream.specs.Numbers.{format_version}
 use Rattle.saved_stream.specs.declared.part.Part.{Part}
 use Rattle.saved_stream.specs.declared.part.Part.TheVariants.{Record, Blob}
 use Rattle.saved_stream.specs.Parts.{parts}
@@ -25,7 +25,7 @@ may_follow (Blob kind) count = is_length kind count
 
 -- whether a header begins with this magic and the version
 abbrev pub begins : List ℕ → List ℕ → Bool
-begins magic header = starts_with nat_eq header magic && slice_index header 4 == VERSION
+begins magic header = starts_with nat_eq header magic && slice_index header 4 == format_version
 
 -- whether these nine bytes are the header of a part
 abbrev pub is_header : Part → List ℕ → Bool

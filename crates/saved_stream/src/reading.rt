@@ -206,7 +206,7 @@ fn cut_behind(gather: &Gather) -> Malformed
 {
     Malformed {
         why: Why::Cut,
-        place: gather.begun().len() as u32,
+        place: gather.len() as u32,
     }
 }
 

@@ -1,6 +1,6 @@
 -- Commands by their digits.
 use Rattle.std.proofs.Common.{◌≡◌, ℕ, ◌/◌, Bool, true, false, List, [], ◌∷◌, ◌++◌, length, refl, sym, ap, ◌∙◌, arith, cond, Some, None, Result, Ok, Err}
-use Rattle.std.specs.Prelude.{◌==◌, ◌↔◌}
+use Rattle.std.specs.Prelude.{◌==◌, ◌↔◌, Option, option_and_then}
 use Rattle.std.specs.List.{AllPass}
 use Rattle.std.specs.Str.{bytes_eq}
 use Rattle.std.proofs.lemmas.List.Splits.{join_with_byte-slice_split, slice_split_none}
@@ -10,11 +10,11 @@ use lib.Chars.{codes}
 use Rattle.hex.specs.Hex.{decode_of, encode_lower, is_hex_digit, IsBytes}
 use Rattle.hex.specs.declared.error.FromHexError.{FromHexError}
 use Rattle.hex.proofs.HexLemmas.{decode_of-ok, decode_of-encode_lower}
-use Rattle.vt_script.specs.declared.drive.DriveLine.TheVariants.{Cmd}
-use Rattle.vt_script.specs.Script.{parts_of}
+use Rattle.vt_script.specs.declared.drive.DriveLine.TheVariants.{Cmd, Move, MoveFail}
+use Rattle.vt_script.specs.Script.{parts_of, ordinal_of}
 use Rattle.tpm_frame.specs.Sizes.{IsLength, IsWellSized, is_well_sized}
 use Rattle.tpm_frame.proofs.WellSized.{well_sized, test_of}
-use Rattle.vt_script.specs.Drive.{sized_command, command_of, drive_of_words, drive_of, SpellsCommand}
+use Rattle.vt_script.specs.Drive.{sized_command, command_of, lost_message_of, drive_of_words, drive_of, SpellsCommand}
 
 -- too few digits for the header of a command, or more than the buffer has room for
 pub sized_command-None : (digits : List ℕ) → (IsLength (length digits / 2) → ⊥) → sized_command (decode_of digits) ≡ None
@@ -55,21 +55,41 @@ command_of-Some (digits ∷ []) bytes h =
     record { digits = digits; alone = refl; decoded = found.0; sized = found.1 }
 command_of-Some (digits ∷ more ∷ words) bytes h = cc h
 
-spells : (line : List ℕ) (parts : List (List ℕ)) (bytes : List ℕ) → parts_of 32 line ≡ parts → drive_of_words parts ≡ Some (Cmd bytes) → SpellsCommand bytes line
-spells line [] bytes cut h = cc h
-spells line (name ∷ words) bytes cut h = go (bytes_eq name (codes "cmd")) refl h
+-- `cmd` and the digits of a command spell it
+spelled_by : (line name : List ℕ) (rest : List (List ℕ)) (bytes : List ℕ) → parts_of 32 line ≡ name ∷ rest → name ≡ codes "cmd" → Digits rest bytes → SpellsCommand bytes line
+spelled_by line name rest bytes cut named found = record {
+  digits = found.digits;
+  spelling = sym (rw (cut, found.alone, named) at (join_with_byte-slice_split 32 line));
+  decoded = found.decoded;
+  sized = found.sized;
+}
+
+-- `movefail` asks for no command
+not_lost : (words : List (List ℕ)) (bytes : List ℕ) → lost_message_of words ≡ Some (Cmd bytes) → ⊥
+not_lost [] bytes h = cc
+not_lost (message ∷ []) bytes h = go (ordinal_of message) h
   where
-    go : (test : Bool) → bytes_eq name (codes "cmd") ≡ test → cond test (command_of words) None ≡ Some (Cmd bytes) → SpellsCommand bytes line
-    go false is h = cc h
-    go true is h =
-        let named = (bytes_eq-Decides name (codes "cmd")).0 is in
-        let found = command_of-Some words bytes h in
-        record {
-          digits = found.digits;
-          spelling = sym (rw (cut, found.alone, named) at (join_with_byte-slice_split 32 line));
-          decoded = found.decoded;
-          sized = found.sized;
-        }
+    go : (found : Option ℕ) → option_and_then (λ k. Some (MoveFail k)) found ≡ Some (Cmd bytes) → ⊥
+    go None h = cc
+    go (Some k) h = cc
+not_lost (message ∷ more ∷ words) bytes h = cc
+
+spells : (line : List ℕ) (parts : List (List ℕ)) (bytes : List ℕ) → parts_of 32 line ≡ parts → drive_of_words parts ≡ Some (Cmd bytes) → SpellsCommand bytes line
+spells line [] bytes cut h = cc
+spells line (word ∷ []) bytes cut h = go (bytes_eq word (codes "move")) h
+  where
+    go : (test : Bool) → cond test (Some Move) None ≡ Some (Cmd bytes) → SpellsCommand bytes line
+    go true h = cc
+    go false h = cc
+spells line (name ∷ first ∷ words) bytes cut h = go (bytes_eq name (codes "cmd")) refl h
+  where
+    lost : (test : Bool) → cond test (lost_message_of (first ∷ words)) None ≡ Some (Cmd bytes) → ⊥
+    lost true h = not_lost (first ∷ words) bytes h
+    lost false h = cc
+
+    go : (test : Bool) → bytes_eq name (codes "cmd") ≡ test → cond test (command_of (first ∷ words)) (cond (bytes_eq name (codes "movefail")) (lost_message_of (first ∷ words)) None) ≡ Some (Cmd bytes) → SpellsCommand bytes line
+    go false is h = absurd (lost (bytes_eq name (codes "movefail")) h)
+    go true is h = spelled_by line name (first ∷ words) bytes cut ((bytes_eq-Decides name (codes "cmd")).0 is) (command_of-Some (first ∷ words) bytes h)
 
 no_space : (c : ℕ) → is_hex_digit c ≡ true → (c == 32) ≡ false
 no_space c digit = grind (arith, nat_tests, digit)

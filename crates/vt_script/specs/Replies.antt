@@ -3,7 +3,7 @@ use Rattle.std.specs.Prelude.{ℕ, zero, suc, ◌+◌, ◌*◌, ◌/◌, ◌%◌
 use Rattle.std.specs.Fmt.{decimal}
 use lib.Chars.{codes}
 use Rattle.crb_regs.specs.Access.{IsAccessSize}
-use Rattle.vt_script.specs.declared.parts.TheConstants.{LINE_FEED}
+use Rattle.vt_script.specs.Numbers.{line_feed}
 use Rattle.vt_script.specs.declared.reply.Reply.{Reply}
 use Rattle.vt_script.specs.declared.reply.Reply.TheVariants.{Value, Accepted, Idle, Claim, Sent, Exec, Done, Cancelled, Lost, Link, Asked, FailedDevice, NotYet, Reset}
 
@@ -18,11 +18,11 @@ hex_digits (suc count) value = hex_digit (value / 16 ^ count % 16) ∷ hex_digit
 
 -- a text and the LF that ends it
 abbrev pub ended : List ℕ → List ℕ
-ended text = text ++ LINE_FEED ∷ []
+ended text = text ++ line_feed ∷ []
 
 -- a name with a number in decimal, ended by LF
 abbrev pub numbered : List ℕ → ℕ → List ℕ
-numbered name number = name ++ decimal number ++ LINE_FEED ∷ []
+numbered name number = ended (name ++ decimal number)
 
 -- the text of a reply, ended by LF
 unfoldable pub reply_text : Reply → List ℕ

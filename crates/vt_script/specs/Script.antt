@@ -1,13 +1,11 @@
 -- The lines of a script (own).
-use Rattle.std.specs.Prelude.{ℕ, ◌+◌, ◌-◌, ◌*◌, ◌&&◌, ◌||◌, ◌==◌, nat_lt, nat_le, if◌then◌else◌, List, [], ◌∷◌, length, Option, Some, None, option_and_then, slice_index}
+use Rattle.std.specs.Prelude.{ℕ, ◌≤◌, ◌+◌, ◌-◌, ◌*◌, ◌&&◌, ◌||◌, ◌==◌, nat_lt, nat_le, if◌then◌else◌, List, [], ◌∷◌, length, Option, Some, None, option_and_then, slice_index}
 use Rattle.std.specs.List.{slice_split}
 use Rattle.std.specs.Str.{bytes_eq}
 use lib.Chars.{codes}
-use Rattle.crb_regs.specs.declared.access.TheConstants.{PAGE_SIZE}
-use Rattle.vt_script.specs.declared.parts.TheConstants.{SPACE, LINE_FEED}
 use Rattle.move_codec.specs.declared.names.HostName.{HostName}
 use Rattle.move_codec.specs.declared.names.HostName.TheVariants.{A}
-use Rattle.vt_script.specs.declared.event.TheConstants.{OFFSET_DIGITS, BYTE_DIGITS, CALL_DIGITS, FIRST_CALL, LAST_CALL, HEXADECIMAL, DECIMAL}
+use Rattle.vt_script.specs.Numbers.{space, line_feed}
 use Rattle.vt_script.specs.declared.event.Event.{Event}
 use Rattle.vt_script.specs.declared.event.Event.TheVariants.{Access, Work, Ask, Reset, Fail}
 
@@ -23,7 +21,7 @@ without_empty_end (part ∷ parts) = part ∷ without_empty_end parts
 
 -- the lines of a script: each is ended by LF, the last one by LF or by the end of the script
 abbrev pub lines_of : List ℕ → List (List ℕ)
-lines_of script = without_empty_end (parts_of LINE_FEED script)
+lines_of script = without_empty_end (parts_of line_feed script)
 
 -- the value of a hexadecimal digit of either case
 abbrev pub digit_of : ℕ → Option ℕ
@@ -46,9 +44,21 @@ number_after base number (b ∷ bs) = option_and_then (λ digit. number_after ba
 abbrev pub number_of : ℕ → ℕ → List ℕ → Option ℕ
 number_of base most word = if nat_lt 0 (length word) && nat_le (length word) most then number_after base 0 word else None
 
--- the number of a call, in decimal without a leading zero
-abbrev pub call_of : List ℕ → Option ℕ
-call_of word = option_and_then (λ n. if slice_index word 0 == 48 || nat_lt n FIRST_CALL || nat_lt LAST_CALL n then None else Some n) (number_of DECIMAL CALL_DIGITS word)
+-- which call or which message a word names, counted from 1: in decimal, without a leading zero
+abbrev pub ordinal_of : List ℕ → Option ℕ
+ordinal_of word = option_and_then (λ n. if slice_index word 0 == 48 || nat_lt n 1 || nat_lt 65535 n then None else Some n) (number_of 10 5 word)
+
+-- an ordinal that a word can name
+abbrev pub IsOrdinal : ℕ → Type 0
+IsOrdinal n = (1 ≤ n) × (n ≤ 65535)
+
+-- the offset that a word names
+abbrev pub offset_of : List ℕ → Option ℕ
+offset_of word = number_of 16 3 word
+
+-- the value of so many bytes that a word names
+abbrev pub value_of : ℕ → List ℕ → Option ℕ
+value_of size word = number_of 16 (2 * size) word
 
 -- the host that a word names
 abbrev pub host_of : List ℕ → Option HostName
@@ -63,35 +73,28 @@ size_of word =
     else (if bytes_eq word (codes "8") then Some 8
     else None)))
 
--- a read of so many bytes at an offset, where it lies within the page
-abbrev pub read_event : ℕ → ℕ → Option Event
-read_event offset size =
-    if nat_le (offset + size) PAGE_SIZE
-    then Some (Access (record { offset = offset; size = size; write = None }))
-    else None
-
--- a write of a value of so many bytes at an offset, where it lies within the page
-abbrev pub write_event : ℕ → ℕ → ℕ → Option Event
-write_event offset size value =
-    if nat_le (offset + size) PAGE_SIZE
-    then Some (Access (record { offset = offset; size = size; write = Some value }))
+-- an access of so many bytes at an offset, a write where there is a value, if it lies within the page
+abbrev pub access_event : ℕ → ℕ → Option ℕ → Option Event
+access_event offset size write =
+    if nat_le (offset + size) 0x1000
+    then Some (Access (record { offset = offset; size = size; write = write }))
     else None
 
 -- what the words after `r` ask for: offset and size
 abbrev pub read_of : List (List ℕ) → Option Event
 read_of (offset ∷ size ∷ []) =
-    option_and_then (λ at. option_and_then (λ n. read_event at n) (size_of size)) (number_of HEXADECIMAL OFFSET_DIGITS offset)
+    option_and_then (λ at. option_and_then (λ n. access_event at n None) (size_of size)) (offset_of offset)
 read_of _ = None
 
 -- what the words after `w` ask for: offset, size and value
 abbrev pub write_of : List (List ℕ) → Option Event
 write_of (offset ∷ size ∷ value ∷ []) =
-    option_and_then (λ at. option_and_then (λ n. option_and_then (λ v. write_event at n v) (number_of HEXADECIMAL (BYTE_DIGITS * n) value)) (size_of size)) (number_of HEXADECIMAL OFFSET_DIGITS offset)
+    option_and_then (λ at. option_and_then (λ n. option_and_then (λ v. access_event at n (Some v)) (value_of n value)) (size_of size)) (offset_of offset)
 write_of _ = None
 
--- what the words after `fail` ask for: a host, and the number of a call
+-- what the words after `fail` ask for: a host, and which call on its wires is to fail
 abbrev pub fail_of : List (List ℕ) → Option Event
-fail_of (host ∷ call ∷ []) = option_and_then (λ h. option_and_then (λ k. Some (Fail h k)) (call_of call)) (host_of host)
+fail_of (host ∷ call ∷ []) = option_and_then (λ h. option_and_then (λ k. Some (Fail h k)) (ordinal_of call)) (host_of host)
 fail_of _ = None
 
 -- what a line of one word asks for
@@ -118,4 +121,4 @@ event_of_words (name ∷ first ∷ words) = words_event name (first ∷ words)
 
 -- what a line asks for; `None` where it isn't in the grammar
 unfoldable pub event_of : List ℕ → Option Event
-event_of line = event_of_words (parts_of SPACE line)
+event_of line = event_of_words (parts_of space line)

@@ -1,9 +1,10 @@
 //! What a line of a script asks for.
-ghost use Rattle.std.specs.Prelude.{◌≡◌, ◌*◌, ◌^◌, ◌<◌, ◌≤◌, IfSome};
+ghost use Rattle.std.specs.Prelude.{◌≡◌, ◌*◌, ◌^◌, ◌<◌, IfSome};
 ghost use Rattle.crb_regs.specs.Access.{IsAccessSize};
-ghost use Rattle.vt_script.specs.Script.{digit_of, digit_in, number_of, size_of, call_of, host_of, read_event, write_event};
+ghost use Rattle.vt_script.specs.Script.{offset_of, size_of, value_of, host_of, access_event};
 ghost use Rattle.vt_script.specs.Script.{parts_of, read_of, write_of, fail_of, word_event, words_event, event_of};
 
+use crate::number::{number, ordinal};
 use crate::parts::{SPACE, first_part};
 use crb_regs::Access;
 use move_codec::HostName;
@@ -14,20 +15,8 @@ const OFFSET_DIGITS: usize = 3;
 /// How many digits each byte of a written value has at most.
 const BYTE_DIGITS: usize = 2;
 
-/// How many digits the number of a call has at most.
-const CALL_DIGITS: usize = 5;
-
-/// The least number of a call.
-const FIRST_CALL: u64 = 1;
-
-/// The greatest number of a call.
-const LAST_CALL: u64 = 65_535;
-
 /// The base of offsets and values.
 const HEXADECIMAL: u64 = 16;
-
-/// The base of the numbers of calls.
-const DECIMAL: u64 = 10;
 
 /// What one line of a script asks for.
 #[derive(Clone, Copy, Debug, PartialEq, Eq)]
@@ -44,46 +33,6 @@ pub enum Event {
     Fail { host: HostName, call: u32 },
 }
 
-// The value of a hexadecimal digit of either case.
-fn digit(byte: u8) -> Option<u8>
-    ensures value { result ≡ digit_of byte }
-    ensures below { IfSome result (λ d. d < 16) }
-{
-    match byte {
-        b'0'..=b'9' => Some(byte - b'0'),
-        b'a'..=b'f' => Some(byte - b'a' + 10),
-        b'A'..=b'F' => Some(byte - b'A' + 10),
-        _ => None,
-    }
-}
-
-// The value of a digit of a number in this base.
-fn digit_in(base: u64, byte: u8) -> Option<u64>
-    ensures value { result ≡ digit_in base byte }
-    ensures below { IfSome result (λ d. d < base) }
-{
-    let value = u64::from(digit(byte)?);
-    if value < base { Some(value) } else { None }
-}
-
-// The number that digits spell: at least one, and so many at most.
-fn number(base: u64, most: usize, word: &[u8]) -> Option<u64>
-    requires least { 1 ≤ base }
-    requires base { base ≤ 16 }
-    requires most { most ≤ 16 }
-    ensures value { result ≡ number_of base most word.now }
-    ensures below { IfSome result (λ n. n < base ^ most) }
-{
-    if word.is_empty() || word.len() > most {
-        return None;
-    }
-    let mut number = 0u64;
-    for byte in word {
-        number = number * base + digit_in(base, *byte)?;
-    }
-    Some(number)
-}
-
 fn size(word: &[u8]) -> Option<u8>
     ensures value { result ≡ size_of word.now }
     ensures sizes { IfSome result IsAccessSize }
@@ -98,7 +47,7 @@ fn size(word: &[u8]) -> Option<u8>
 }
 
 fn offset(word: &[u8]) -> Option<u32>
-    ensures { result ≡ number_of HEXADECIMAL OFFSET_DIGITS word.now }
+    ensures { result ≡ offset_of word.now }
 {
     let offset = number(HEXADECIMAL, OFFSET_DIGITS, word)?;
     Some(offset as u32)
@@ -106,22 +55,10 @@ fn offset(word: &[u8]) -> Option<u32>
 
 fn value(word: &[u8], size: u8) -> Option<u64>
     requires { IsAccessSize size }
-    ensures value { result ≡ number_of HEXADECIMAL (BYTE_DIGITS * size) word.now }
+    ensures value { result ≡ value_of size word.now }
     ensures below { IfSome result (λ v. v < 256 ^ size) }
 {
     number(HEXADECIMAL, BYTE_DIGITS * usize::from(size), word)
-}
-
-// The number of a call: in decimal, without a leading zero.
-fn call(word: &[u8]) -> Option<u32>
-    ensures value { result ≡ call_of word.now }
-    ensures least { IfSome result (λ n. 1 ≤ n) }
-{
-    let number = number(DECIMAL, CALL_DIGITS, word)?;
-    if word[0] == b'0' || !(FIRST_CALL..=LAST_CALL).contains(&number) {
-        return None;
-    }
-    Some(number as u32)
 }
 
 // The host that a word names. Only one is there yet.
@@ -134,20 +71,13 @@ fn host(word: &[u8]) -> Option<HostName>
     }
 }
 
-fn guest_read(offset: u32, size: u8) -> Option<Event>
-    requires { IsAccessSize size }
-    ensures { result ≡ read_event offset size }
-{
-    let access = Access::new(offset, size, None)?;
-    Some(Event::Access(access))
-}
-
-fn guest_write(offset: u32, size: u8, value: u64) -> Option<Event>
+// The access, where it lies within the page.
+fn guest_access(offset: u32, size: u8, write: Option<u64>) -> Option<Event>
     requires size { IsAccessSize size }
-    requires value { value < 256 ^ size }
-    ensures { result ≡ write_event offset size value }
+    requires value { IfSome write (λ v. v < 256 ^ size) }
+    ensures { result ≡ access_event offset size write }
 {
-    let access = Access::new(offset, size, Some(value))?;
+    let access = Access::new(offset, size, write)?;
     Some(Event::Access(access))
 }
 
@@ -171,7 +101,7 @@ fn parse_read(words: &[u8]) -> Option<Event>
     let (second, rest) = first_part(SPACE, rest?);
     match rest {
         Some(_) => None,
-        None => guest_read(offset(first)?, size(second)?),
+        None => guest_access(offset(first)?, size(second)?, None),
     }
 }
 
@@ -187,7 +117,7 @@ fn parse_write(words: &[u8]) -> Option<Event>
         None => {
             let offset = offset(first)?;
             let size = size(second)?;
-            guest_write(offset, size, value(third, size)?)
+            guest_access(offset, size, Some(value(third, size)?))
         }
     }
 }
@@ -202,7 +132,7 @@ fn parse_fail(words: &[u8]) -> Option<Event>
         Some(_) => None,
         None => {
             let host = host(first)?;
-            let call = call(second)?;
+            let call = ordinal(second)?;
             Some(Event::Fail { host, call })
         }
     }

@@ -8,6 +8,7 @@
 
 mod drive;
 mod event;
+mod number;
 mod parts;
 mod reply;
 

@@ -1,6 +1,6 @@
 use Rattle.std.proofs.Common.{◌+◌, arith}
 use Rattle.vt_script.proofs.Digits.{number_grows, digits_fit, power_grows}
-use Rattle.vt_script.proofs.event.number.Goals as goal
+use Rattle.vt_script.proofs.number.number.Goals as goal
 
 pub overflow_mul-number : goal.overflow_mul-number
 overflow_mul-number c =

@@ -1,6 +1,6 @@
 use Rattle.std.proofs.Common.{◌≡◌, ◌<◌, ◌^◌, drop}
 use Rattle.vt_script.specs.Script.{number_after}
-use Rattle.vt_script.proofs.event.number.Given as goal
+use Rattle.vt_script.proofs.number.number.Given as goal
 
 -- the number so far and the digits that are left spell the whole
 abbrev pub invariant-loop-byte : goal.invariant-loop-byte

@@ -1,0 +1,29 @@
+-- What lines and replies say of one host: the history, the number of the call on its wires that is to fail, where there is one, and
+-- the calls since the line that set it. (Own definitions.)
+use Rattle.std.specs.Prelude.{ℕ, ◌+◌, Bool, Option, Some}
+use Rattle.vt_script.specs.declared.event.Event.{Event as Line}
+use Rattle.vt_script.specs.declared.reply.Reply.{Reply}
+use Rattle.crb_history.specs.Base.{Base}
+use Rattle.crb_history.specs.Event.{History}
+use Rattle.crb_history.specs.Replies.{Transcript, history, order_of, call_count, reaches, with_event, order_after, count_after, response_length}
+
+pub record OneHost : Type 0 where
+  pub history : History
+  pub order : Option ℕ
+  pub count : ℕ
+
+-- whether one of so many next calls is to fail
+abbrev pub fails_in : OneHost → ℕ → Bool
+fails_in h calls = reaches h.order (h.count + calls)
+
+-- after one more line and its reply
+abbrev pub one_after : Base → OneHost → Line → Reply → OneHost
+one_after b h line reply = record {
+  history = with_event (Some line) reply (fails_in h) h.history;
+  order = order_after (Some line) reply h.order;
+  count = count_after (Some line) reply (response_length b h.history) h.count;
+}
+
+-- what a transcript says
+abbrev pub one_told : Base → Transcript → OneHost
+one_told b t = record { history = history b t; order = order_of t; count = call_count b t }
