@@ -455,3 +455,14 @@ fn data_of_any_length(rt: HostRuntime) -> Result<(), Fail> {
     assert!(rt; is_largest(&mut reader));
     Ok(())
 }
+
+#[test]
+fn texts_of_faults(rt: HostRuntime) -> Result<(), Fail> {
+    let unknown = RequestFault::Code(6);
+    let text = "no request has the code 6";
+    assert_eq!(rt; format!(in rt.alloc(); "{unknown}")?.as_str(), text);
+    let not_zero = ReplyFault::Value(5);
+    let text = "byte 5 of the reply has to be 0";
+    assert_eq!(rt; format!(in rt.alloc(); "{not_zero}")?.as_str(), text);
+    Ok(())
+}

@@ -84,7 +84,7 @@ fn is_written(alloc: Global, m: &Message, wanted: &[u8]) -> Result<bool, AllocEr
     requires { HasPiece m.now.body }
 {
     let mut text = Vec::from_slice(alloc, &[0xee])?;
-    write_message(m, &mut text)?;
+    write_message(alloc, m, &mut text)?;
     Ok(text.first() == Some(&0xee) && text.get(1..) == Some(wanted))
 }
 
@@ -492,17 +492,17 @@ fn a_piece_after_want_of_memory(rt: HostRuntime) -> Result<(), Fail> {
 }
 
 /// Whether a message is written, a second time where memory is wanting: the output is as it was then.
-fn is_written_again(text: &mut Vec<u8>) -> Result<bool, AllocError> {
+fn is_written_again(alloc: Global, text: &mut Vec<u8>) -> Result<bool, AllocError> {
     let m = Message {
         to: HostName::A,
         epoch: 1,
         body: Body::Prepared,
     };
-    if write_message(&m, text).is_err() {
+    if write_message(alloc, &m, text).is_err() {
         if text.as_slice() != [0xee].as_slice() {
             return Ok(false);
         }
-        write_message(&m, text)?;
+        write_message(alloc, &m, text)?;
     }
     Ok(text.first() == Some(&0xee) && text.get(1..) == Some(PREPARED.as_slice()))
 }
@@ -510,7 +510,7 @@ fn is_written_again(text: &mut Vec<u8>) -> Result<bool, AllocError> {
 #[test]
 fn writing_after_want_of_memory(rt: HostRuntime) -> Result<(), Fail> {
     let mut text = Vec::from_slice(rt.alloc(), &[0xee])?;
-    assert!(rt; is_written_again(&mut text)?);
+    assert!(rt; is_written_again(rt.alloc(), &mut text)?);
     Ok(())
 }
 

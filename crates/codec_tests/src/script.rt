@@ -241,7 +241,7 @@ fn texts(rt: HostRuntime) -> Result<(), Fail> {
 fn command_of(alloc: Global, line: &[u8]) -> Result<Option<Bytes>, AllocError> {
     match parse_drive(alloc, line)? {
         Some(DriveLine::Cmd(command)) => Ok(Some(command)),
-        None => Ok(None),
+        _ => Ok(None),
     }
 }
 
@@ -276,8 +276,48 @@ fn commands(rt: HostRuntime) -> Result<(), Fail> {
     Ok(())
 }
 
+// A line that moves, and the message that is lost, where one is.
+const MOVES: [(&[u8], Option<u32>); 5] = [
+    (b"move", None),
+    (b"movefail 1", Some(1)),
+    (b"movefail 12", Some(12)),
+    (b"movefail 9999", Some(9_999)),
+    (b"movefail 65535", Some(65_535)),
+];
+
+// Whether a line asks for a move in which this message is lost.
+fn moves(alloc: Global, line: &[u8], lost: Option<u32>) -> Result<bool, AllocError> {
+    match parse_drive(alloc, line)? {
+        Some(DriveLine::Move) => Ok(lost.is_none()),
+        Some(DriveLine::MoveFail(message)) => Ok(lost == Some(message)),
+        _ => Ok(false),
+    }
+}
+
+#[test]
+fn moving_lines(rt: HostRuntime) -> Result<(), Fail> {
+    for (line, lost) in MOVES {
+        assert!(rt; moves(rt.alloc(), line, lost)?, "at {line:?}");
+    }
+    Ok(())
+}
+
 // Lines that are none of `drive`.
-const NO_COMMANDS: [&[u8]; 23] = [
+const NO_DRIVE_LINES: [&[u8]; 37] = [
+    b"Move",
+    b"move ",
+    b" move",
+    b"move 1",
+    b"movefail",
+    b"movefail ",
+    b"movefail 0",
+    b"movefail 01",
+    b"movefail +1",
+    b"movefail 1 ",
+    b"movefail 1 1",
+    b"movefail a 1",
+    b"movefail 65536",
+    b"movefail ffff",
     b"",
     b" ",
     b"cmd",
@@ -309,8 +349,8 @@ const NO_COMMANDS: [&[u8]; 23] = [
 #[test]
 fn no_drive_lines(rt: HostRuntime) -> Result<(), Fail> {
     let alloc = rt.alloc();
-    for line in NO_COMMANDS {
-        assert!(rt; command_of(alloc, line)?.is_none(), "at {line:?}");
+    for line in NO_DRIVE_LINES {
+        assert!(rt; parse_drive(alloc, line)?.is_none(), "at {line:?}");
     }
     Ok(())
 }
