@@ -1,0 +1,9 @@
+pub mod Devices
+pub mod Pieces
+pub mod Totals
+pub mod Placed
+pub mod Followed
+pub mod Offers
+pub mod Repeated
+pub mod Counting
+pub mod Staying

@@ -1,0 +1,9 @@
+pub mod Requests
+pub mod Sides
+pub mod Model
+pub mod Parts
+pub mod Hosts
+pub mod Table
+pub mod Calls
+pub mod Counts
+pub mod Recording
