@@ -1,0 +1,17 @@
+pub mod Slices
+pub mod Ceilings
+pub mod Requests
+pub mod Pieces
+pub mod Bridging
+pub mod Offering
+pub mod Sure
+pub mod Sureness
+pub mod Certain
+pub mod Undisturbed
+pub mod Turns
+pub mod Hands
+pub mod Held
+pub mod Starts
+pub mod Losses
+pub mod Carrying
+pub mod Whole

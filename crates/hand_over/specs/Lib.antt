@@ -1,0 +1,10 @@
+pub mod Parts
+pub mod Host
+pub mod Bridge
+pub mod Fine
+pub mod Counts
+pub mod Ends
+pub mod Moving
+pub mod Start
+pub mod Losses
+pub mod Carrying

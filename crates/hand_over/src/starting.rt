@@ -1,0 +1,77 @@
+//! The first two messages of a move: the Offer and the first Need.
+ghost use Rattle.std.specs.Prelude.{◌≡◌, ◌+◌, ◌*◌, suc, false, Ok};
+ghost use Rattle.crb_machine.specs.Over.{Stops};
+ghost use Rattle.move_core.specs.Hosts.{IsConsistentHost};
+ghost use Rattle.move_core.specs.Requests.{wires_view};
+ghost use Rattle.move_core.specs.Sides.{is_active};
+ghost use Rattle.hand_over.specs.Counts.{blob_piece, pieces_from, messages_left};
+ghost use Rattle.hand_over.specs.Moving.{AreMoving, to_source};
+ghost use Rattle.hand_over.specs.Start.{CanMove, to_begin, emptied};
+
+use crate::bridge::fitting_deliveries_are_sure;
+use crb_machine::stopped_devices_go_on;
+use crb_port::Port;
+use ctrl_client::Wires;
+use move_codec::Message;
+use move_core::{Delivered, Host};
+use state_blobs::laws::blobs_are_told_apart;
+use std::alloc::Global;
+
+/// The source offers its guest.
+pub fn ask_offer<P: Port, W: Wires>(
+    source: &mut Host<P>,
+    from: &mut W,
+    target: &Host<P>,
+    to: &W,
+) -> Message
+    requires can { let w = wires_view W.fails W.later (W.link from.old) (W.plan from.old) (W.faults from.old) (W.traffic from.old) in
+        let v = wires_view W.fails W.later (W.link to.now) (W.plan to.now) (W.faults to.now) (W.traffic to.now) in
+        CanMove P.known source.old w target.now v }
+    requires source_sound { IsConsistentHost P.known source.old }
+    requires target_sound { IsConsistentHost P.known target.now }
+    ensures moving { let w = wires_view W.fails W.later (W.link from.new) (W.plan from.new) (W.faults from.new) (W.traffic from.new) in
+        let v = wires_view W.fails W.later (W.link to.now) (W.plan to.now) (W.faults to.now) (W.traffic to.now) in
+        AreMoving P.known (to_begin result) source.new w (emptied target.now) v }
+    ensures source { source.new ≡ record source.old { top = source.old.top + 1; stage = source.new.stage; record_bytes = source.new.record_bytes; device = source.new.device } }
+    ensures stops { Stops P.known source.old.device (Ok tt) source.new.device }
+    ensures link { W.link from.new ≡ W.link from.old }
+    ensures count { messages_left source.new (W.link from.new) result ≡ 2 * pieces_from source.new (W.link from.new) + 2 }
+{
+    blobs_are_told_apart();
+    stopped_devices_go_on::<P>();
+    match source.offer(from) {
+        Ok(m) => m,
+        Err(_) => unreachable!(),
+    }
+}
+
+/// The target takes the offer, and says what it needs first.
+pub fn take_offer<P: Port, W: Wires>(
+    alloc: Global,
+    source: &Host<P>,
+    from: &W,
+    target: &mut Host<P>,
+    to: &mut W,
+    m: &Message,
+) -> Message
+    requires moving { let w = wires_view W.fails W.later (W.link from.now) (W.plan from.now) (W.faults from.now) (W.traffic from.now) in
+        let v = wires_view W.fails W.later (W.link to.old) (W.plan to.old) (W.faults to.old) (W.traffic to.old) in
+        AreMoving P.known (to_begin m.now) source.now w (emptied target.old) v }
+    requires rests { is_active target.old.stage ≡ false }
+    ensures moving { let w = wires_view W.fails W.later (W.link from.now) (W.plan from.now) (W.faults from.now) (W.traffic from.now) in
+        let v = wires_view W.fails W.later (W.link to.new) (W.plan to.new) (W.faults to.new) (W.traffic to.new) in
+        AreMoving P.known (to_source result) source.now w target.new v }
+    ensures target { target.new ≡ record target.old { top = source.now.top; stage = target.new.stage; record_bytes = target.new.record_bytes } }
+    ensures pieces { blob_piece (W.link to.new) ≡ blob_piece (W.link to.old) }
+    ensures count { suc (messages_left source.now (W.link from.now) result) ≡ messages_left source.now (W.link from.now) m.now }
+{
+    fitting_deliveries_are_sure::<P, W>();
+    blobs_are_told_apart();
+    let Ok(answer) = target.deliver(alloc, m, to) else {
+        unreachable!()
+    };
+    match answer {
+        Delivered::Sent(reply) => reply,
+        _ => unreachable!(),
+    }
+}
