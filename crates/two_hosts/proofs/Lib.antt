@@ -1,0 +1,21 @@
+mod WorkedScripts
+pub mod Shifts
+pub mod RunningSets
+pub mod Stopped
+pub mod Repeated
+pub mod GivenUp
+pub mod Refusals
+pub mod Totals
+pub mod Faults
+pub mod Tops
+pub mod Counts
+pub mod LastTurns
+pub mod Moving
+pub mod WholeMoves
+pub mod Sure
+pub mod Frames
+pub mod HolderActs
+pub mod RestActs
+pub mod InvariantKept
+pub mod Consequences
+pub mod OneRun

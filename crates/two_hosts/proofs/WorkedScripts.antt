@@ -1,0 +1,368 @@
+-- Scripts with their replies, computed from the definitions.
+use Rattle.std.proofs.Common.{◌≡◌, ℕ, Bool, true, false, ◌&&◌, ◌+◌, List, [], ◌∷◌, length, Option, Some, None, refl, lit≤}
+use Rattle.std.specs.Prelude.{replicate, ⊤}
+use Rattle.vt_script.specs.declared.event.Event.TheVariants.{Access, Work, Ask as AskLine, Reset as ResetLine, Fail}
+use Rattle.vt_script.specs.declared.reply.Reply.TheVariants as guest
+use Rattle.device_record.specs.Records.{record_text}
+use Rattle.state_blobs.specs.Texts.{text_of}
+use Rattle.crb_machine.specs.Values.{fresh_device}
+use Rattle.crb_history.specs.Base.{Base, fresh}
+use Rattle.crb_history.specs.Event.{History}
+use Rattle.crb_history.specs.Legal.{Legal}
+use Rattle.crb_history.specs.Continued.{base_after}
+use Rattle.crb_history.specs.Device.Stage.{Waiting, HasSent}
+use Rattle.move_codec.specs.declared.names.HostName.{HostName}
+use Rattle.move_codec.specs.declared.names.HostName.TheVariants.{A, B}
+use Rattle.move_codec.specs.declared.names.Reason.TheVariants as reason
+use Rattle.move_codec.specs.declared.message.Message.{Message}
+use Rattle.two_hosts.specs.declared.line.Line.{Line}
+use Rattle.two_hosts.specs.declared.line.Line.TheVariants.{Guest, Offer, Deliver, GiveUp, Again, Show}
+use Rattle.two_hosts.specs.declared.reply.Reply.{Reply}
+use Rattle.two_hosts.specs.declared.reply.Reply.TheVariants as reply
+use Rattle.two_hosts.specs.Hosts.{Exchange, Transcript, TwoHosts, first_hosts, hosts_after, running_host, offered_by, after_offer, after_exchange, next_number, message_at, bag_size}
+use Rattle.two_hosts.specs.Replies.{AnswersIn}
+use Rattle.two_hosts.specs.WholeMove.{piece_count}
+
+never : (c : Bool) → (c && false) ≡ false
+never true = refl
+never false = refl
+
+sent_waits : HasSent ≡ Waiting → ⊥
+sent_waits is = cc
+
+-- a line and its reply
+abbrev said : Line → Reply → Exchange
+said line r = record { line = Some line; reply = r }
+
+-- ---- With another function for the values at the end of a history, since those of a whole buffer take too many steps to compute
+-- here. With the function of the definitions it is `hosts_after` itself (`same_hosts`).
+
+abbrev offered_with : Base → TwoHosts → Option HostName → TwoHosts
+offered_with values t None = t
+offered_with values t (Some n) = offered_by values t n
+
+abbrev exchanged_with : (History → Base) → Base → ℕ → TwoHosts → Option Line → Reply → TwoHosts
+exchanged_with save b piece t (Some Offer) (reply.Offered epoch message) = offered_with (save t.history) t (running_host t)
+exchanged_with save b piece t line r = after_exchange b piece t line r
+
+abbrev hosts_with : (History → Base) → Base → ℕ → Transcript → TwoHosts
+hosts_with save b piece [] = first_hosts b
+hosts_with save b piece (y ∷ t) = exchanged_with save b piece (hosts_with save b piece t) y.line y.reply
+
+abbrev InTurnBy : (History → Base) → Base → ℕ → Transcript → Type 0
+InTurnBy save b piece [] = ⊤
+InTurnBy save b piece (y ∷ t) = InTurnBy save b piece t × AnswersIn b piece (hosts_with save b piece t) y.line y.reply
+
+record IsRunBy (save : History → Base) (b : Base) (piece : ℕ) (t : Transcript) : Type 0 where
+  legal : Legal b (hosts_with save b piece t).history
+  in_turn : InTurnBy save b piece t
+
+same_exchange : (b : Base) (piece : ℕ) (t : TwoHosts) (line : Option Line) (r : Reply) → exchanged_with (base_after b) b piece t line r ≡ after_exchange b piece t line r
+same_exchange b piece t (Some Offer) (reply.Offered epoch message) = go (running_host t)
+  where
+    go : (n : Option HostName) → offered_with (base_after b t.history) t n ≡ after_offer b t n (reply.Offered epoch message)
+    go None = refl
+    go (Some n) = refl
+same_exchange b piece t _ _ = refl
+
+same_hosts : (b : Base) (piece : ℕ) (t : Transcript) → hosts_with (base_after b) b piece t ≡ hosts_after b piece t
+same_hosts b piece [] = refl
+same_hosts b piece (y ∷ t) = rw (same_hosts b piece t) (same_exchange b piece (hosts_after b piece t) y.line y.reply)
+
+-- A fresh device over a TPM whose seed is zeros. The empty list stands for the zeros of the buffer: the byte at each place is
+-- the same.
+abbrev blank : Base
+blank = record (fresh (replicate 32 0)) { device = record fresh_device { content = [] } }
+
+-- An offer waits for a command that is claimed; then no line of the guest is answered.
+--   w 8 4 1 > ok, w 40 4 1 > ok, w 80 4 180 > ok, w 84 4 c00 > ok, w 88 4 4401 > ok, w 4c 4 1 > ok, work > claim 1
+--   offer > not yet, reset > not yet, work > sent 1, work > exec 1, work > done 1, offer > offered 1 sent 1
+--   r 0 4 > stopped, work > stopped
+offers_wait_for_commands : IsRunBy (λ history. blank) blank 4096 (
+    said (Guest Work) reply.Stopped ∷
+    said (Guest (Access (record { offset = 0; size = 4; write = None }))) reply.Stopped ∷
+    said Offer (reply.Offered 1 1) ∷
+    said (Guest Work) (reply.Guest (guest.Done 1)) ∷
+    said (Guest Work) (reply.Guest (guest.Exec 1)) ∷
+    said (Guest Work) (reply.Guest (guest.Sent 1)) ∷
+    said (Guest ResetLine) (reply.Guest guest.NotYet) ∷
+    said Offer (reply.Guest guest.NotYet) ∷
+    said (Guest Work) (reply.Guest (guest.Claim 1)) ∷
+    said (Guest (Access (record { offset = 76; size = 4; write = Some 1 }))) (reply.Guest guest.Accepted) ∷
+    said (Guest (Access (record { offset = 136; size = 4; write = Some 17409 }))) (reply.Guest guest.Accepted) ∷
+    said (Guest (Access (record { offset = 132; size = 4; write = Some 3072 }))) (reply.Guest guest.Accepted) ∷
+    said (Guest (Access (record { offset = 128; size = 4; write = Some 384 }))) (reply.Guest guest.Accepted) ∷
+    said (Guest (Access (record { offset = 64; size = 4; write = Some 1 }))) (reply.Guest guest.Accepted) ∷
+    said (Guest (Access (record { offset = 8; size = 4; write = Some 1 }))) (reply.Guest guest.Accepted) ∷
+    [])
+unfolding record_text text_of bag_size
+offers_wait_for_commands = record { legal = ((((((((((tt, tt), tt), tt), tt), tt), tt), record { executing = refl; reached = refl }), record { executing = refl; reached = refl }), record { executing = refl; reached = refl }), record { executing = refl; reached = refl }); in_turn = (((((((((((((((tt, refl), refl), refl), refl), refl), refl), refl), refl), refl), refl), refl), rw never refl), refl), refl), refl) }
+
+-- A whole move: message 10 is Prepared, message 11 is Commit.
+--   offer > offered 1 sent 1, deliver 1 > sent 2, deliver 2 > sent 3, deliver 3 > sent 4, deliver 4 > sent 5
+--   deliver 5 > sent 6, deliver 6 > sent 7, deliver 7 > sent 8, deliver 8 > sent 9, deliver 9 > sent 10
+--   deliver 10 > sent 11, deliver 11 > running, r 0 4 > 00000081
+whole_move : IsRunBy (λ history. blank) blank 4096 (
+    said (Guest (Access (record { offset = 0; size = 4; write = None }))) (reply.Guest (guest.Value 129 4)) ∷
+    said (Deliver 11) reply.Running ∷
+    said (Deliver 10) (reply.Sent 11) ∷
+    said (Deliver 9) (reply.Sent 10) ∷
+    said (Deliver 8) (reply.Sent 9) ∷
+    said (Deliver 7) (reply.Sent 8) ∷
+    said (Deliver 6) (reply.Sent 7) ∷
+    said (Deliver 5) (reply.Sent 6) ∷
+    said (Deliver 4) (reply.Sent 5) ∷
+    said (Deliver 3) (reply.Sent 4) ∷
+    said (Deliver 2) (reply.Sent 3) ∷
+    said (Deliver 1) (reply.Sent 2) ∷
+    said Offer (reply.Offered 1 1) ∷
+    [])
+unfolding record_text text_of bag_size
+whole_move = record { legal = (tt, (lit≤ tt, refl)); in_turn = (((((((((((((tt, refl), refl), refl), refl), refl), refl), refl), refl), refl), refl), refl), refl), (refl, refl)) }
+
+-- The offer is given up before the Prepared comes.
+--   offer > offered 1 sent 1, deliver 1 > sent 2, deliver 2 > sent 3, deliver 3 > sent 4, deliver 4 > sent 5
+--   deliver 5 > sent 6, deliver 6 > sent 7, deliver 7 > sent 8, deliver 8 > sent 9, deliver 9 > sent 10
+--   giveup > resumed sent 11, deliver 10 > ignored, r 0 4 > 00000081, deliver 11 > took, giveup > not offering
+given_up_before_the_commit : IsRunBy (λ history. blank) blank 4096 (
+    said GiveUp reply.NotOffering ∷
+    said (Deliver 11) reply.Took ∷
+    said (Guest (Access (record { offset = 0; size = 4; write = None }))) (reply.Guest (guest.Value 129 4)) ∷
+    said (Deliver 10) reply.Ignored ∷
+    said GiveUp (reply.ResumedSent 11) ∷
+    said (Deliver 9) (reply.Sent 10) ∷
+    said (Deliver 8) (reply.Sent 9) ∷
+    said (Deliver 7) (reply.Sent 8) ∷
+    said (Deliver 6) (reply.Sent 7) ∷
+    said (Deliver 5) (reply.Sent 6) ∷
+    said (Deliver 4) (reply.Sent 5) ∷
+    said (Deliver 3) (reply.Sent 4) ∷
+    said (Deliver 2) (reply.Sent 3) ∷
+    said (Deliver 1) (reply.Sent 2) ∷
+    said Offer (reply.Offered 1 1) ∷
+    [])
+unfolding record_text text_of bag_size
+given_up_before_the_commit = record { legal = (tt, (lit≤ tt, refl)); in_turn = (((((((((((((((tt, refl), refl), refl), refl), refl), refl), refl), refl), refl), refl), refl), refl), (refl, refl)), refl), refl) }
+
+-- The Commit is late; the target says again that it is prepared, and gets another one.
+--   offer > offered 1 sent 1, deliver 1 > sent 2, deliver 2 > sent 3, deliver 3 > sent 4, deliver 4 > sent 5
+--   deliver 5 > sent 6, deliver 6 > sent 7, deliver 7 > sent 8, deliver 8 > sent 9, deliver 9 > sent 10
+--   deliver 10 > sent 11, r 0 4 > stopped, again > sent 12, deliver 12 > sent 13, deliver 13 > running, r 0 4 > 00000081
+--   deliver 11 > ignored, again > not prepared
+commit_sent_again : IsRunBy (λ history. blank) blank 4096 (
+    said Again reply.NotPrepared ∷
+    said (Deliver 11) reply.Ignored ∷
+    said (Guest (Access (record { offset = 0; size = 4; write = None }))) (reply.Guest (guest.Value 129 4)) ∷
+    said (Deliver 13) reply.Running ∷
+    said (Deliver 12) (reply.Sent 13) ∷
+    said Again (reply.Sent 12) ∷
+    said (Guest (Access (record { offset = 0; size = 4; write = None }))) reply.Stopped ∷
+    said (Deliver 10) (reply.Sent 11) ∷
+    said (Deliver 9) (reply.Sent 10) ∷
+    said (Deliver 8) (reply.Sent 9) ∷
+    said (Deliver 7) (reply.Sent 8) ∷
+    said (Deliver 6) (reply.Sent 7) ∷
+    said (Deliver 5) (reply.Sent 6) ∷
+    said (Deliver 4) (reply.Sent 5) ∷
+    said (Deliver 3) (reply.Sent 4) ∷
+    said (Deliver 2) (reply.Sent 3) ∷
+    said (Deliver 1) (reply.Sent 2) ∷
+    said Offer (reply.Offered 1 1) ∷
+    [])
+unfolding record_text text_of bag_size
+commit_sent_again = record { legal = (tt, (lit≤ tt, refl)); in_turn = ((((((((((((((((((tt, refl), refl), refl), refl), refl), refl), refl), refl), refl), refl), refl), refl), refl), refl), refl), (refl, refl)), refl), refl) }
+
+-- There and back; then messages that come too late, and one that was never sent.
+--   offer > offered 1 sent 1, deliver 1 > sent 2, deliver 2 > sent 3, deliver 3 > sent 4, deliver 4 > sent 5
+--   deliver 5 > sent 6, deliver 6 > sent 7, deliver 7 > sent 8, deliver 8 > sent 9, deliver 9 > sent 10
+--   deliver 10 > sent 11, deliver 11 > running, r 0 4 > 00000081, offer > offered 2 sent 12, deliver 12 > sent 13
+--   deliver 13 > sent 14, deliver 14 > sent 15, deliver 15 > sent 16, deliver 16 > sent 17, deliver 17 > sent 18
+--   deliver 18 > sent 19, deliver 19 > sent 20, deliver 20 > sent 21, deliver 21 > sent 22, deliver 22 > running
+--   deliver 1 > ignored, deliver 11 > ignored, deliver 23 > no message
+there_and_back : IsRunBy (λ history. blank) blank 4096 (
+    said (Deliver 23) reply.NoMessage ∷
+    said (Deliver 11) reply.Ignored ∷
+    said (Deliver 1) reply.Ignored ∷
+    said (Deliver 22) reply.Running ∷
+    said (Deliver 21) (reply.Sent 22) ∷
+    said (Deliver 20) (reply.Sent 21) ∷
+    said (Deliver 19) (reply.Sent 20) ∷
+    said (Deliver 18) (reply.Sent 19) ∷
+    said (Deliver 17) (reply.Sent 18) ∷
+    said (Deliver 16) (reply.Sent 17) ∷
+    said (Deliver 15) (reply.Sent 16) ∷
+    said (Deliver 14) (reply.Sent 15) ∷
+    said (Deliver 13) (reply.Sent 14) ∷
+    said (Deliver 12) (reply.Sent 13) ∷
+    said Offer (reply.Offered 2 12) ∷
+    said (Guest (Access (record { offset = 0; size = 4; write = None }))) (reply.Guest (guest.Value 129 4)) ∷
+    said (Deliver 11) reply.Running ∷
+    said (Deliver 10) (reply.Sent 11) ∷
+    said (Deliver 9) (reply.Sent 10) ∷
+    said (Deliver 8) (reply.Sent 9) ∷
+    said (Deliver 7) (reply.Sent 8) ∷
+    said (Deliver 6) (reply.Sent 7) ∷
+    said (Deliver 5) (reply.Sent 6) ∷
+    said (Deliver 4) (reply.Sent 5) ∷
+    said (Deliver 3) (reply.Sent 4) ∷
+    said (Deliver 2) (reply.Sent 3) ∷
+    said (Deliver 1) (reply.Sent 2) ∷
+    said Offer (reply.Offered 1 1) ∷
+    [])
+unfolding record_text text_of bag_size
+there_and_back = record { legal = (tt, (lit≤ tt, refl)); in_turn = ((((((((((((((((((((((((((((tt, refl), refl), refl), refl), refl), refl), refl), refl), refl), refl), refl), refl), (refl, refl)), refl), refl), refl), refl), refl), refl), refl), refl), refl), refl), refl), refl), refl), refl), refl) }
+
+-- The bytes of an Offer.
+--   offer > offered 1 sent 1, show 1 > 4352424d010000001a0101000000000000000100000017000000310000000a0000000a
+offer_shown : IsRunBy (λ history. blank) blank 4096 (
+    said (Show 1) (reply.Shown (67 ∷ 82 ∷ 66 ∷ 77 ∷ 1 ∷ 0 ∷ 0 ∷ 0 ∷ 26 ∷ 1 ∷ 1 ∷ 0 ∷ 0 ∷ 0 ∷ 0 ∷ 0 ∷ 0 ∷ 0 ∷ 1 ∷ 0 ∷ 0 ∷ 0 ∷ 23 ∷ 0 ∷ 0 ∷ 0 ∷ 49 ∷ 0 ∷ 0 ∷ 0 ∷ 10 ∷ 0 ∷ 0 ∷ 0 ∷ 10 ∷ [])) ∷
+    said Offer (reply.Offered 1 1) ∷
+    [])
+unfolding record_text text_of bag_size
+offer_shown = record { legal = tt; in_turn = ((tt, refl), refl) }
+
+-- A call fails while a command is sent: the device is lost for good.
+--   fail a 2 > ok, w 8 4 1 > ok, w 40 4 1 > ok, w 80 4 180 > ok, w 84 4 c00 > ok, w 88 4 4401 > ok, w 4c 4 1 > ok
+--   work > claim 1, work > sent 1, work > lost 1, r 44 4 > 00000001, r 4c 4 > 00000000, w 40 4 1 > ok, r 44 4 > 00000001
+--   offer > failed device, reset > failed device
+command_lost : IsRunBy (λ history. blank) blank 4096 (
+    said (Guest ResetLine) (reply.Guest guest.FailedDevice) ∷
+    said Offer (reply.Guest guest.FailedDevice) ∷
+    said (Guest (Access (record { offset = 68; size = 4; write = None }))) (reply.Guest (guest.Value 1 4)) ∷
+    said (Guest (Access (record { offset = 64; size = 4; write = Some 1 }))) (reply.Guest guest.Accepted) ∷
+    said (Guest (Access (record { offset = 76; size = 4; write = None }))) (reply.Guest (guest.Value 0 4)) ∷
+    said (Guest (Access (record { offset = 68; size = 4; write = None }))) (reply.Guest (guest.Value 1 4)) ∷
+    said (Guest Work) (reply.Guest (guest.Lost 1)) ∷
+    said (Guest Work) (reply.Guest (guest.Sent 1)) ∷
+    said (Guest Work) (reply.Guest (guest.Claim 1)) ∷
+    said (Guest (Access (record { offset = 76; size = 4; write = Some 1 }))) (reply.Guest guest.Accepted) ∷
+    said (Guest (Access (record { offset = 136; size = 4; write = Some 17409 }))) (reply.Guest guest.Accepted) ∷
+    said (Guest (Access (record { offset = 132; size = 4; write = Some 3072 }))) (reply.Guest guest.Accepted) ∷
+    said (Guest (Access (record { offset = 128; size = 4; write = Some 384 }))) (reply.Guest guest.Accepted) ∷
+    said (Guest (Access (record { offset = 64; size = 4; write = Some 1 }))) (reply.Guest guest.Accepted) ∷
+    said (Guest (Access (record { offset = 8; size = 4; write = Some 1 }))) (reply.Guest guest.Accepted) ∷
+    said (Guest (Fail A 2)) (reply.Guest guest.Accepted) ∷
+    [])
+unfolding record_text text_of bag_size
+command_lost = record { legal = (((((((((((((tt, tt), tt), tt), tt), tt), tt), record { executing = refl; reached = refl }), record { executing = refl; reached = refl }), record { executing = refl; claimed = λ is. sent_waits is }), (lit≤ tt, refl)), (lit≤ tt, refl)), tt), (lit≤ tt, refl)); in_turn = ((((((((((((((((tt, refl), refl), refl), refl), refl), refl), refl), refl), refl), refl), (refl, refl)), (refl, refl)), refl), (refl, refl)), refl), refl) }
+
+-- A call fails in an offer, and one in its delivery.
+--   fail a 1 > ok, offer > link, r 0 4 > 00000081, fail b 1 > ok, offer > offered 1 sent 1
+--   deliver 1 > refused link sent 2, deliver 2 > resumed, deliver 1 > ignored, offer > offered 2 sent 3
+calls_fail : IsRunBy (λ history. blank) blank 4096 (
+    said Offer (reply.Offered 2 3) ∷
+    said (Deliver 1) reply.Ignored ∷
+    said (Deliver 2) reply.Resumed ∷
+    said (Deliver 1) (reply.RefusedSent reason.Link 2) ∷
+    said Offer (reply.Offered 1 1) ∷
+    said (Guest (Fail B 1)) (reply.Guest guest.Accepted) ∷
+    said (Guest (Access (record { offset = 0; size = 4; write = None }))) (reply.Guest (guest.Value 129 4)) ∷
+    said Offer (reply.Guest guest.Link) ∷
+    said (Guest (Fail A 1)) (reply.Guest guest.Accepted) ∷
+    [])
+unfolding record_text text_of bag_size
+calls_fail = record { legal = (tt, (lit≤ tt, refl)); in_turn = (((((((((tt, refl), refl), (refl, refl)), refl), refl), refl), refl), refl), refl) }
+
+-- A call of the source fails: the message is delivered once more.
+--   fail a 10 > ok, offer > offered 1 sent 1, deliver 1 > sent 2, deliver 2 > sent 3, deliver 3 > sent 4
+--   deliver 4 > link, deliver 4 > sent 5, deliver 5 > sent 6
+source_fails : IsRunBy (λ history. blank) blank 4096 (
+    said (Deliver 5) (reply.Sent 6) ∷
+    said (Deliver 4) (reply.Sent 5) ∷
+    said (Deliver 4) (reply.Guest guest.Link) ∷
+    said (Deliver 3) (reply.Sent 4) ∷
+    said (Deliver 2) (reply.Sent 3) ∷
+    said (Deliver 1) (reply.Sent 2) ∷
+    said Offer (reply.Offered 1 1) ∷
+    said (Guest (Fail A 10)) (reply.Guest guest.Accepted) ∷
+    [])
+unfolding record_text text_of bag_size
+source_fails = record { legal = tt; in_turn = ((((((((tt, refl), refl), refl), refl), refl), refl), refl), refl) }
+
+-- The fifth call for the last piece fails.
+--   fail b 13 > ok, offer > offered 1 sent 1, deliver 1 > sent 2, deliver 2 > sent 3, deliver 3 > sent 4
+--   deliver 4 > sent 5, deliver 5 > sent 6, deliver 6 > sent 7, deliver 7 > sent 8, deliver 8 > sent 9
+--   deliver 9 > refused link sent 10, r 0 4 > stopped, deliver 10 > resumed, deliver 9 > ignored, r 0 4 > 00000081
+last_piece_fails : IsRunBy (λ history. blank) blank 4096 (
+    said (Guest (Access (record { offset = 0; size = 4; write = None }))) (reply.Guest (guest.Value 129 4)) ∷
+    said (Deliver 9) reply.Ignored ∷
+    said (Deliver 10) reply.Resumed ∷
+    said (Guest (Access (record { offset = 0; size = 4; write = None }))) reply.Stopped ∷
+    said (Deliver 9) (reply.RefusedSent reason.Link 10) ∷
+    said (Deliver 8) (reply.Sent 9) ∷
+    said (Deliver 7) (reply.Sent 8) ∷
+    said (Deliver 6) (reply.Sent 7) ∷
+    said (Deliver 5) (reply.Sent 6) ∷
+    said (Deliver 4) (reply.Sent 5) ∷
+    said (Deliver 3) (reply.Sent 4) ∷
+    said (Deliver 2) (reply.Sent 3) ∷
+    said (Deliver 1) (reply.Sent 2) ∷
+    said Offer (reply.Offered 1 1) ∷
+    said (Guest (Fail B 13)) (reply.Guest guest.Accepted) ∷
+    [])
+unfolding record_text text_of bag_size
+last_piece_fails = record { legal = (tt, (lit≤ tt, refl)); in_turn = (((((((((((((((tt, refl), refl), refl), refl), refl), refl), refl), refl), refl), refl), refl), refl), refl), refl), (refl, refl)) }
+
+-- A fault that a whole move doesn't reach waits for the next one.
+--   fail b 14 > ok, offer > offered 1 sent 1, deliver 1 > sent 2, deliver 2 > sent 3, deliver 3 > sent 4
+--   deliver 4 > sent 5, deliver 5 > sent 6, deliver 6 > sent 7, deliver 7 > sent 8, deliver 8 > sent 9
+--   deliver 9 > sent 10, deliver 10 > sent 11, deliver 11 > running, ask > link, fail a 1 > ok, ask > asked
+--   offer > offered 2 sent 12, deliver 12 > refused link sent 13, deliver 13 > resumed
+fault_waits : IsRunBy (λ history. blank) blank 4096 (
+    said (Deliver 13) reply.Resumed ∷
+    said (Deliver 12) (reply.RefusedSent reason.Link 13) ∷
+    said Offer (reply.Offered 2 12) ∷
+    said (Guest AskLine) (reply.Guest guest.Asked) ∷
+    said (Guest (Fail A 1)) (reply.Guest guest.Accepted) ∷
+    said (Guest AskLine) (reply.Guest guest.Link) ∷
+    said (Deliver 11) reply.Running ∷
+    said (Deliver 10) (reply.Sent 11) ∷
+    said (Deliver 9) (reply.Sent 10) ∷
+    said (Deliver 8) (reply.Sent 9) ∷
+    said (Deliver 7) (reply.Sent 8) ∷
+    said (Deliver 6) (reply.Sent 7) ∷
+    said (Deliver 5) (reply.Sent 6) ∷
+    said (Deliver 4) (reply.Sent 5) ∷
+    said (Deliver 3) (reply.Sent 4) ∷
+    said (Deliver 2) (reply.Sent 3) ∷
+    said (Deliver 1) (reply.Sent 2) ∷
+    said Offer (reply.Offered 1 1) ∷
+    said (Guest (Fail B 14)) (reply.Guest guest.Accepted) ∷
+    [])
+unfolding record_text text_of bag_size
+fault_waits = record { legal = ((tt, tt), tt); in_turn = (((((((((((((((((((tt, refl), refl), refl), refl), refl), refl), refl), refl), refl), refl), refl), refl), refl), refl), refl), refl), refl), refl), refl) }
+
+-- Either call of an ask fails.
+--   fail a 1 > ok, ask > link, fail a 2 > ok, ask > link, ask > asked
+asks_fail : IsRunBy (λ history. blank) blank 4096 (
+    said (Guest AskLine) (reply.Guest guest.Asked) ∷
+    said (Guest AskLine) (reply.Guest guest.Link) ∷
+    said (Guest (Fail A 2)) (reply.Guest guest.Accepted) ∷
+    said (Guest AskLine) (reply.Guest guest.Link) ∷
+    said (Guest (Fail A 1)) (reply.Guest guest.Accepted) ∷
+    [])
+unfolding record_text text_of bag_size
+asks_fail = record { legal = (((tt, tt), tt), tt); in_turn = (((((tt, refl), refl), refl), refl), refl) }
+
+-- ---- the bag
+
+full_bag : (sent : List Message) → length sent ≡ 16384 → next_number sent ≡ 0
+unfolding bag_size
+full_bag sent is = rw is refl
+
+last_place : (sent : List Message) → length sent ≡ 16383 → next_number sent ≡ 16384
+unfolding bag_size
+last_place sent is = rw is refl
+
+past_bag : (sent : List Message) → message_at sent 16385 ≡ None
+unfolding bag_size
+past_bag sent = refl
+
+-- ---- pieces
+
+-- a device whose command waits has parts of 33, 49, 10 and 10 bytes: with one byte in a piece these are 102 pieces
+many_pieces : piece_count 1 33 + (piece_count 1 49 + (piece_count 1 10 + piece_count 1 10)) ≡ 102
+many_pieces = refl
+
+few_pieces : piece_count 4096 33 + (piece_count 4096 49 + (piece_count 4096 10 + piece_count 4096 10)) ≡ 4
+few_pieces = refl

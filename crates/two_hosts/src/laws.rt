@@ -1,0 +1,119 @@
+//! Laws of two hosts, over every run. Their calls do nothing.
+ghost use Rattle.std.specs.Prelude.{◌≡◌, ◌≢◌, ℕ, ◌+◌, ◌-◌, ◌^◌, ◌<◌, length, ◌&&◌, true, false, Some, None, [], ◌∷◌, ◌++◌, map};
+ghost use Rattle.crb_history.specs.Base.{Base, IsFitBase};
+ghost use Rattle.crb_history.specs.Continued.{base_after};
+ghost use Rattle.move_codec.specs.declared.names.Reason.{Reason};
+ghost use Rattle.move_codec.specs.declared.names.Reason.TheVariants.{Link};
+ghost use Rattle.move_codec.specs.declared.names.HostName.{HostName};
+ghost use Rattle.move_codec.specs.declared.message.Message.{Message};
+ghost use Rattle.move_codec.specs.declared.message.Body.TheVariants.{Commit, Prepared as PreparedBody};
+ghost use Rattle.move_core.specs.declared.side.Side.TheVariants.{Released};
+ghost use Rattle.move_core.specs.Sides.{is_running};
+ghost use Rattle.move_core.specs.Table.{message_from};
+ghost use Rattle.two_hosts.specs.declared.line.Line.{Line};
+ghost use Rattle.two_hosts.specs.declared.line.Line.TheVariants.{GiveUp};
+ghost use Rattle.two_hosts.specs.declared.reply.Reply.{Reply};
+ghost use Rattle.two_hosts.specs.declared.reply.Reply.TheVariants.{Ignored, Sent, Offered, RefusedSent, EpochEnd};
+ghost use Rattle.two_hosts.specs.Hosts.{TwoHosts, Transcript, line_of, hosts_after, first_hosts, host_of, stage_at, message_at, is_fault, running_host, next_number, after_delivery, after_line};
+ghost use Rattle.two_hosts.specs.Replies.{IsRun, InTurn, AnswersLine, deliver_reply, offer_reply, meets_fault};
+ghost use Rattle.two_hosts.specs.Invariant.{HostsInvariant, side_at, shown_side};
+ghost use Rattle.two_hosts.specs.Laws.{Always, NeverTwoActive, NoneMeansHandedOver, NeverBothSent, EachMessageIsTrue, IsStale, IsMoveLine, IsOffering, StaysOffering};
+ghost use Rattle.two_hosts.specs.RunningSet.{contains, is_empty, running_set, needs_running, is_stopped};
+ghost use Rattle.two_hosts.specs.WholeMove.{CanOffer, CanMove, MovesOver, offer_now, pieces};
+
+/// At most one host is Running or Offering. Where none is, one is Released and the other Prepared, in one epoch.
+#[tactic(auto, using(crate::proofs::Consequences::one, crate::proofs::Consequences::none))]
+pub fn one_host_runs()
+    ensures one { Always NeverTwoActive }
+    ensures none { Always NoneMeansHandedOver }
+{}
+
+/// A Commit and an Abort of one epoch are never both sent.
+
+pub fn never_both()
+    ensures { Always NeverBothSent }
+{}
+
+/// An Offer has the lengths of the values that were offered in its epoch, and a Piece has a slice of them.
+
+pub fn slices()
+    ensures { Always EachMessageIsTrue }
+{}
+
+/// The replies say which host runs: the set that they give has the hosts that run, and at most one of them. A line that needs
+/// a running host is answered `stopped` exactly where the set is empty, and no other line is.
+#[tactic(auto, using(crate::proofs::RunningSets::runs_where, crate::proofs::RunningSets::never_two, crate::proofs::Stopped::stopped_where_empty))]
+pub fn replies_say_who_runs()
+    ensures same { (b : Base) (piece : ℕ) (t : Transcript) → InTurn b piece t
+        → (n : HostName) → contains (running_set t) n ≡ is_running (stage_at (hosts_after b piece t) n) }
+    ensures one { (b : Base) (piece : ℕ) (t : Transcript) → InTurn b piece t → ((running_set t).a && (running_set t).b) ≡ false }
+    ensures stopped { (b : Base) (piece : ℕ) (t : Transcript) (line : Line) (r : Reply) → InTurn b piece t
+        → AnswersLine b piece (hosts_after b piece t) line r → is_stopped r ≡ (needs_running line && is_empty (running_set t)) }
+{}
+
+/// A message that comes too late is ignored, and changes nothing. A Prepared that comes to the host that was released in its
+/// epoch sends the Commit once more, and changes nothing else.
+#[tactic(auto, using(crate::proofs::Repeated::stale_is_ignored, crate::proofs::Repeated::commits_again))]
+pub fn late_messages_are_ignored()
+    ensures ignored { (piece : ℕ) (t : TwoHosts) (m : Message) → IsStale (side_at t m.to) m.epoch m.body
+        → (deliver_reply piece t (Some m) ≡ Ignored) × (after_delivery piece t (Some m) Ignored ≡ t) }
+    ensures commits_again { (piece : ℕ) (t : TwoHosts) (m : Message) → m.body ≡ PreparedBody
+        → shown_side (side_at t m.to) ≡ Released m.epoch
+        → (deliver_reply piece t (Some m) ≡ Sent (next_number t.sent))
+        × (after_delivery piece t (Some m) (Sent (next_number t.sent))
+        ≡ record t { sent = t.sent ++ message_from m.to m.epoch Commit ∷ [] }) }
+{}
+
+/// The lines of a move leave the history of the guest as it was, and so does every line where no host runs. A host that gives
+/// its offer up runs again after the history that was there when it offered.
+#[tactic(auto, using(crate::proofs::GivenUp::moves_leave, crate::proofs::GivenUp::stopped_leaves))]
+pub fn given_up_moves_leave_the_guest()
+    ensures moves { (b : Base) (piece : ℕ) (t : TwoHosts) (line : Line) (r : Reply) → IsMoveLine line
+        → (after_line b piece t line r).history ≡ t.history }
+    ensures stopped { (b : Base) (piece : ℕ) (t : TwoHosts) (line : Line) (r : Reply) → running_host t ≡ None
+        → (after_line b piece t line r).history ≡ t.history }
+    ensures given_up { (b : Base) (piece : ℕ) (n : HostName) (e : ℕ) (more t : Transcript) (r : Reply) → InTurn b piece (more ++ t)
+        → StaysOffering b piece n e more t → IsOffering (hosts_after b piece (more ++ t)) n e
+        → ((after_line b piece (hosts_after b piece (more ++ t)) GiveUp r).history ≡ (hosts_after b piece t).history)
+        × (is_running (stage_at (after_line b piece (hosts_after b piece (more ++ t)) GiveUp r) n) ≡ true) }
+{}
+
+/// A delivery is refused for a failed call alone: no message comes to a host that is busy with another move, and each part has
+/// a length that may be offered. It is answered by a fault exactly where the injected fault occurs in it. In fewer than
+/// 2^64 - 1 lines an offer never lacks a greater epoch.
+#[tactic(auto, using(crate::proofs::Sure::faults, crate::proofs::Tops::epochs_last))]
+pub fn refusals_are_failed_calls()
+    ensures link { (b : Base) (piece : ℕ) (t : Transcript) (message number : ℕ) (why : Reason) → IsFitBase b → InTurn b piece t
+        → deliver_reply piece (hosts_after b piece t) (message_at (hosts_after b piece t).sent message) ≡ RefusedSent why number
+        → why ≡ Link }
+    ensures injected { (b : Base) (piece : ℕ) (t : Transcript) (message : ℕ) (m : Message) → IsFitBase b → InTurn b piece t
+        → message_at (hosts_after b piece t).sent message ≡ Some m
+        → is_fault (deliver_reply piece (hosts_after b piece t) (Some m)) ≡ meets_fault piece (hosts_after b piece t) m }
+    ensures epochs { (b : Base) (piece : ℕ) (t : Transcript) → InTurn b piece t → length t < 2 ^ 64 - 1
+        → offer_reply b (hosts_after b piece t) (running_host (hosts_after b piece t)) ≢ EpochEnd }
+{}
+
+/// A host that can offer does. Where no call is to fail and the bag has room, delivering the message that was sent last, again
+/// and again, ends with `running` after exactly 2 n + 3 deliveries, n being the number of pieces.
+#[tactic(auto, using(crate::proofs::WholeMoves::offer_replied))]
+pub fn undisturbed_moves_end()
+    ensures offers { (b : Base) (w : TwoHosts) (n : HostName) → CanOffer b w n
+        → offer_reply b w (running_host w) ≡ Offered ((host_of w n).side.top + 1) (next_number w.sent) }
+    ensures moves { (b : Base) (piece : ℕ) (t : Transcript) (n : HostName) → IsFitBase b → InTurn b piece t
+        → CanMove b piece (hosts_after b piece t) n
+        → MovesOver b piece (offer_now b piece t ∷ t) n (pieces piece (base_after b (hosts_after b piece t).history)) }
+{}
+
+/// The invariant is so at first, and each line with its reply keeps it: it is so after every transcript in turn.
+#[tactic(auto, using(crate::proofs::InvariantKept::first_kept, crate::proofs::InvariantKept::line_kept, crate::proofs::InvariantKept::run_kept))]
+pub fn lines_keep_the_invariant()
+    ensures first { (b : Base) → HostsInvariant b (first_hosts b) }
+    ensures line { (b : Base) (piece : ℕ) (w : TwoHosts) (line : Line) (r : Reply) → HostsInvariant b w
+        → AnswersLine b piece w line r → HostsInvariant b (after_line b piece w line r) }
+    ensures run { (b : Base) (piece : ℕ) (t : Transcript) → InTurn b piece t → HostsInvariant b (hosts_after b piece t) }
+{}
+
+/// Lines have one run, injected faults included: each reply follows from the lines and replies before it.
+pub fn runs_are_one()
+    ensures { (b : Base) (piece : ℕ) (t u : Transcript) → map line_of t ≡ map line_of u → IsRun b piece t → IsRun b piece u → t ≡ u }
+{}
