@@ -4,6 +4,8 @@
 #![tactic(auto)]
 
 #[cfg(test)]
+mod pair;
+#[cfg(test)]
 mod saved;
 #[cfg(test)]
 mod world;

@@ -7,6 +7,7 @@ use std::process::Abort;
 use std::test::*;
 use tpm_core::SEED_SIZE;
 use vt_base::{Malformed, Why};
+use vt_emulator::Emulator;
 use vt_script::{Event, Reply};
 use vt_world::*;
 
@@ -48,8 +49,10 @@ fn has_tpm(wires: MemWires) -> bool {
 
 #[test]
 fn wires_with_and_without_a_tpm(rt: HostRuntime) -> Result<(), Fail> {
-    assert!(rt; has_tpm(MemWires::new(rt.alloc(), [0; SEED_SIZE], 4096)?));
-    assert!(rt; !has_tpm(MemWires::empty(rt.alloc(), 4096)?));
+    let with = Emulator::new(rt.alloc(), [0; SEED_SIZE], 4096)?;
+    assert!(rt; has_tpm(MemWires::new(rt.alloc(), with)?));
+    let without = Emulator::empty(rt.alloc(), 4096)?;
+    assert!(rt; !has_tpm(MemWires::new(rt.alloc(), without)?));
     Ok(())
 }
 
@@ -70,7 +73,7 @@ fn saved_at_once(alloc: Global, piece: u32) -> Result<(Saved, bool), AllocError>
 {
     let mut world = World::new(alloc, [0; SEED_SIZE], piece)?;
     let mut stream = Vec::new(alloc);
-    let saved = world.save(&mut stream);
+    let saved = world.save(alloc, &mut stream);
     drop(world);
     Ok((saved?, stream.as_slice() == FRESH.as_slice()))
 }

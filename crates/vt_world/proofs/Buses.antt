@@ -1,5 +1,5 @@
 -- A line of the script as an access of a driver.
-use Rattle.std.proofs.Common.{◌≡◌, ◌≢◌, ℕ, Bool, true, false, ◌&&◌, ◌∷◌, refl, ap, sym, ◌∙◌, subst, Some, None, arith}
+use Rattle.std.proofs.Common.{◌≡◌, ◌≢◌, ℕ, ◌+◌, Bool, true, false, ◌&&◌, ◌∷◌, refl, ap, sym, ◌∙◌, subst, Some, None, arith}
 use Rattle.std.specs.Prelude.{◌==◌, Option, IsSome, is_none, if◌then◌else◌}
 use Rattle.std.proofs.lemmas.Bool.Decides.{nat_tests}
 use Rattle.crb_regs.specs.Access.{Access}
@@ -7,14 +7,14 @@ use Rattle.crb_history.specs.Base.{Base}
 use Rattle.crb_history.specs.Event.{History}
 use Rattle.crb_history.specs.Event.Event.{Read, Write}
 use Rattle.crb_history.specs.Legal.{Legal}
-use Rattle.crb_history.specs.Replies.{none_fails, Transcript, turn, history, order_of, fails_within, with_event, is_fault}
+use Rattle.crb_history.specs.Replies.{none_fails, reaches, turn, with_event, is_fault}
+use Rattle.crb_history.specs.OneHost.{OneHost, fails_in, one_after}
 use Rattle.vt_script.specs.declared.event.Event.TheVariants.{Access as AccessLine, Work}
 use Rattle.vt_script.specs.declared.reply.Reply.{Reply}
 use Rattle.vt_script.specs.declared.reply.Reply.TheVariants as replied
 use Rattle.vt_world.specs.Bus.{IsAfter, IsReady, Leads, after_access, after_turn, event_by}
-use Rattle.crb_history.specs.Replies.{exchange}
-use Rattle.crb_history.proofs.Unordered.{still_none, turn-none, turned}
-use Rattle.vt_world.specs.Follows.{WorldState, Follows, Steps}
+use Rattle.crb_history.proofs.Unordered.{still_none}
+use Rattle.vt_seat.specs.Follows.{WorldState, FollowsIn, StepsIn}
 
 is_there : (at : ℕ) → at ≡ 0x4C → (at == 0x4C) ≡ true
 is_there at here = rw here refl
@@ -33,50 +33,50 @@ after-start b p a value write start none here = rw (none, here) refl
 -- ---- the accesses
 
 -- after a read
-read-after : (b : Base) (p : History) (old new : WorldState) (a : Access) (value size : ℕ)
-    → ((t : Transcript) → Follows b t old → Steps b t (AccessLine a) (replied.Value value size) new)
+pub read-after : (b : Base) (p : History) (old new : WorldState) (a : Access) (value size : ℕ)
+    → ((t : OneHost) → FollowsIn b t old → StepsIn b t (AccessLine a) (replied.Value value size) new)
     → IsAfter b p old → IsAfter b (Read a value ∷ p) new
 read-after b p old new a value size steps after =
-    let t : Transcript = after.transcript in
+    let t : OneHost = after.host in
     let one = steps t after.follows in
-    let told : Read a value ∷ history b t ≡ Read a value ∷ p = ap (λ (h : History). Read a value ∷ h) after.told in
+    let same : Read a value ∷ t.history ≡ Read a value ∷ p = ap (λ (h : History). Read a value ∷ h) after.same in
     record {
-      transcript = exchange (AccessLine a) (replied.Value value size) ∷ t;
+      host = one_after b t (AccessLine a) (replied.Value value size);
       follows = one.follows;
       unordered = after.unordered;
-      told = told;
-      legal = subst (Legal b) told (one.legal (subst (Legal b) (sym after.told) after.legal));
+      same = same;
+      legal = subst (Legal b) same (one.legal (subst (Legal b) (sym after.same) after.legal));
     }
 
 -- after a step of the worker
 turn-after : (b : Base) (p : History) (old new : WorldState) (reply : Reply)
-    → ((t : Transcript) → Follows b t old → Steps b t Work reply new)
+    → ((t : OneHost) → FollowsIn b t old → StepsIn b t Work reply new)
     → IsAfter b p old → IsAfter b (after_turn b p) new
 turn-after b p old new reply steps after =
-    let t : Transcript = after.transcript in
+    let t : OneHost = after.host in
     let one = steps t after.follows in
-    let is : reply ≡ turn b (history b t) none_fails = one.answers ∙ turn-none b t after.unordered in
-    let told : with_event (Some Work) reply (fails_within b t) (history b t) ≡ after_turn b p =
-    turned b t reply ∙ ap (λ (r : Reply). with_event (Some Work) r none_fails (history b t)) is ∙ ap (after_turn b) after.told in
+    let is : reply ≡ turn b t.history none_fails = one.answers ∙ ap (λ (o : Option ℕ). turn b t.history (λ calls. reaches o (t.count + calls))) after.unordered in
+    let same : with_event (Some Work) reply (fails_in t) t.history ≡ after_turn b p =
+    ap (λ (o : Option ℕ). with_event (Some Work) reply (λ calls. reaches o (t.count + calls)) t.history) after.unordered ∙ ap (λ (r : Reply). with_event (Some Work) r none_fails t.history) is ∙ ap (after_turn b) after.same in
     record {
-      transcript = exchange Work reply ∷ t;
+      host = one_after b t Work reply;
       follows = one.follows;
-      unordered = still_none (order_of t) (is_fault reply) after.unordered;
-      told = told;
-      legal = subst (Legal b) told (one.legal (subst (Legal b) (sym after.told) after.legal));
+      unordered = still_none t.order (is_fault reply) after.unordered;
+      same = same;
+      legal = subst (Legal b) same (one.legal (subst (Legal b) (sym after.same) after.legal));
     }
 
 -- a read elsewhere than at START
 pub read-leads : (old new : WorldState) (a : Access) (value size : ℕ) → a.write ≡ None → a.offset ≢ 0x4C
-    → ((b : Base) (t : Transcript) → Follows b t old → Steps b t (AccessLine a) (replied.Value value size) new)
+    → ((b : Base) (t : OneHost) → FollowsIn b t old → StepsIn b t (AccessLine a) (replied.Value value size) new)
     → Leads old a value new
 read-leads old new a value size none away steps = λ b p after.
     subst (λ (h : History). IsAfter b h new) (after-elsewhere b p a value a.write (a.offset == 0x4C) none (is_elsewhere a.offset away)) (read-after b p old new a value size (steps b) after)
 
 -- a read of START, and a step of the worker
 pub start-leads : (old middle new : WorldState) (a : Access) (value size : ℕ) (reply : Reply) → a.write ≡ None → a.offset ≡ 0x4C
-    → ((b : Base) (t : Transcript) → Follows b t old → Steps b t (AccessLine a) (replied.Value value size) middle)
-    → ((b : Base) (t : Transcript) → Follows b t middle → Steps b t Work reply new)
+    → ((b : Base) (t : OneHost) → FollowsIn b t old → StepsIn b t (AccessLine a) (replied.Value value size) middle)
+    → ((b : Base) (t : OneHost) → FollowsIn b t middle → StepsIn b t Work reply new)
     → Leads old a value new
 start-leads old middle new a value size reply none here steps works = λ b p after.
     let one : IsAfter b (Read a value ∷ p) middle = read-after b p old middle a value size (steps b) after in
@@ -88,7 +88,7 @@ clash (Some w) some none = cc
 clash None some none = cc
 
 -- the reply to a write
-accepted : (b : Base) (t : Transcript) (a : Access) (reply : Reply) (new : WorldState) → IsSome a.write → Steps b t (AccessLine a) reply new → reply ≡ replied.Accepted
+accepted : (b : Base) (t : OneHost) (a : Access) (reply : Reply) (new : WorldState) → IsSome a.write → StepsIn b t (AccessLine a) reply new → reply ≡ replied.Accepted
 accepted b t a replied.Accepted new some one = refl
 accepted b t a (replied.Value v s) new some one = absurd (clash a.write some one.answers.0)
 accepted b t a replied.Idle new some one = absurd one.answers
@@ -111,19 +111,19 @@ after-write b p a value None start some = absurd (clash None some refl)
 
 -- a write
 pub write-leads : (old new : WorldState) (a : Access) (value : ℕ) (reply : Reply) → IsSome a.write
-    → ((b : Base) (t : Transcript) → Follows b t old → Steps b t (AccessLine a) reply new)
+    → ((b : Base) (t : OneHost) → FollowsIn b t old → StepsIn b t (AccessLine a) reply new)
     → Leads old a value new
 write-leads old new a value reply some steps = λ b p after.
-    let t : Transcript = after.transcript in
-    let is : reply ≡ replied.Accepted = accepted b t a reply new some (steps b t after.follows) in
-    let one : Steps b t (AccessLine a) replied.Accepted new = subst (λ (r : Reply). Steps b t (AccessLine a) r new) is (steps b t after.follows) in
-    let told : Write a ∷ history b t ≡ Write a ∷ p = ap (λ (h : History). Write a ∷ h) after.told in
+    let s : OneHost = after.host in
+    let is : reply ≡ replied.Accepted = accepted b s a reply new some (steps b s after.follows) in
+    let one : StepsIn b s (AccessLine a) replied.Accepted new = subst (λ (r : Reply). StepsIn b s (AccessLine a) r new) is (steps b s after.follows) in
+    let same : Write a ∷ s.history ≡ Write a ∷ p = ap (λ (h : History). Write a ∷ h) after.same in
     let here : IsAfter b (Write a ∷ p) new = record {
-      transcript = exchange (AccessLine a) replied.Accepted ∷ t;
+      host = one_after b s (AccessLine a) replied.Accepted;
       follows = one.follows;
       unordered = after.unordered;
-      told = told;
-      legal = subst (Legal b) told (one.legal (subst (Legal b) (sym after.told) after.legal));
+      same = same;
+      legal = subst (Legal b) same (one.legal (subst (Legal b) (sym after.same) after.legal));
     } in
     subst (λ (h : History). IsAfter b h new) (after-write b p a value a.write (a.offset == 0x4C) some) here
 

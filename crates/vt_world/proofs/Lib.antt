@@ -1,15 +1,3 @@
-pub mod Overwritten
-pub mod Jobs
-pub mod Writes
-pub mod Guests
-pub mod Orders
-pub mod Behind
-pub mod Turns
-pub mod Steps
-pub mod Asks
-pub mod Resets
-pub mod Lines
-pub mod Waits
 pub mod Buses
-pub mod Pieces
-pub mod Savings
+pub mod Pairs
+pub mod Behind

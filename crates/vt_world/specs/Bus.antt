@@ -2,22 +2,23 @@
 -- (Own definitions.)
 use Rattle.std.specs.Prelude.{◌≡◌, ℕ, Bool, ◌&&◌, ◌==◌, if◌then◌else◌, ◌∷◌, Option, Some, None, is_none}
 use Rattle.crb_regs.specs.Access.{Access}
-use Rattle.crb_regs.specs.declared.registers.TheConstants.{CTRL_START}
+use Rattle.crb_regs.specs.Numbers.{ctrl_start}
 use Rattle.crb_driver.specs.Bus.{Relation}
 use Rattle.crb_history.specs.Base.{Base}
 use Rattle.crb_history.specs.Event.{Event, History}
 use Rattle.crb_history.specs.Event.Event.{Read, Write}
 use Rattle.crb_history.specs.Legal.{Legal}
-use Rattle.crb_history.specs.Replies.{Transcript, history, order_of, with_event, turn, none_fails}
+use Rattle.crb_history.specs.Replies.{with_event, turn, none_fails}
+use Rattle.crb_history.specs.OneHost.{OneHost}
 use Rattle.vt_script.specs.declared.event.Event.TheVariants.{Work}
-use Rattle.vt_world.specs.Follows.{WorldState, Follows}
+use Rattle.vt_seat.specs.Follows.{WorldState, FollowsIn}
 
 -- the world stands where this history of one device over one TPM leads, and no call is ordered to fail
 pub record IsAfter (b : Base) (p : History) (w : WorldState) : Type 0 where
-  pub transcript : Transcript
-  pub follows : Follows b transcript w
-  pub unordered : order_of transcript ≡ None
-  pub told : history b transcript ≡ p
+  pub host : OneHost
+  pub follows : FollowsIn b host w
+  pub unordered : host.order ≡ None
+  pub same : host.history ≡ p
   pub legal : Legal b p
 
 -- the event by whether the access writes: a read gives a value, a write carries its own
@@ -31,7 +32,7 @@ event_of_access a value = event_by a.write a value
 
 -- whether the access reads START
 abbrev pub reads_start : Access → Bool
-reads_start a = is_none a.write && a.offset == CTRL_START
+reads_start a = is_none a.write && a.offset == ctrl_start
 
 -- the history after a step of the worker, none of whose calls fails
 abbrev pub after_turn : Base → History → History

@@ -1,5 +1,4 @@
-pub mod Wires
-pub mod Follows
 pub mod Bus
-pub mod Blobs
 pub mod Saving
+pub mod Pairs
+pub mod Moving

@@ -1,0 +1,6 @@
+pub mod Wires
+pub mod Follows
+pub mod Seats
+pub mod Blobs
+pub mod Saving
+pub mod Moves

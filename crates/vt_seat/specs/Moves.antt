@@ -1,0 +1,45 @@
+-- A guest that goes on, at its seat or at another one, after its device was stopped. (Own definitions.)
+use Rattle.std.specs.Prelude.{◌≡◌, ◌≢◌, false, Some, None}
+use Rattle.crb_regs.specs.declared.phase.Phase.TheVariants.{Lost}
+use Rattle.crb_machine.specs.Over.{plain_device}
+use Rattle.crb_machine.specs.State.Slot.{Claimed}
+use Rattle.crb_machine.specs.Steps.{collected}
+use Rattle.crb_worker.specs.declared.progress.Progress.TheVariants.{Free}
+use Rattle.tpm_core.specs.declared.parts.TpmParts.{TpmParts}
+use Rattle.tpm_core.specs.Steps.{IsFit}
+use Rattle.ctrl_client.specs.Exchange.{IsQuiet}
+use Rattle.ctrl_client.specs.Link.{Link, empty_lane}
+use Rattle.crb_history.specs.Base.{Base}
+use Rattle.crb_history.specs.Device.{phase_of}
+use Rattle.crb_history.specs.OneHost.{OneHost}
+use Rattle.crb_history.specs.Replies.{is_under_way}
+use Rattle.vt_seat.specs.Follows.{WorldState, FollowsIn, IsDesk, tpm_at}
+
+-- the emulator behind a link is on, with this TPM, and waits for a command
+pub record EmulatorRests (tpm : TpmParts) (l : Link) : Type 0 where
+  pub quiet : IsQuiet l
+  pub desk : IsDesk l.desk tpm None
+  pub lane : l.commands ≡ empty_lane
+
+-- what is known of a guest leads here; its device isn't lost, no command is claimed and unfinished, and no call is to fail
+pub record CanGo (b : Base) (s : OneHost) (w : WorldState) : Type 0 where
+  pub follows : FollowsIn b s w
+  pub unordered : s.order ≡ None
+  pub working : phase_of b s.history ≢ Lost
+  pub unclaimed : is_under_way b s.history ≡ false
+
+-- such a guest's worker has nothing in hand, and its emulator waits, with the TPM that the history leaves
+pub record IsAtRest (b : Base) (s : OneHost) (w : WorldState) : Type 0 where
+  pub free : w.progress ≡ Free
+  pub unclaimed : (collected (plain_device w.device)).slot ≢ Claimed
+  pub working : (collected (plain_device w.device)).regs.phase ≢ Lost
+  pub emulator : EmulatorRests (tpm_at b s.history) w.link
+  pub fit : IsFit (tpm_at b s.history)
+  pub due : w.due ≡ None
+
+-- The guest goes on: its device is as it was but for an answer that it took, and an emulator with the same TPM waits for it.
+pub record GoesOnFrom (old new : WorldState) : Type 0 where
+  pub device : plain_device new.device ≡ collected (plain_device old.device)
+  pub free : new.progress ≡ Free
+  pub emulator : (tpm : TpmParts) → old.link.desk.tpm ≡ Some tpm → EmulatorRests tpm new.link
+  pub due : new.due ≡ None

@@ -1,0 +1,19 @@
+-- Two hosts at their beginning.
+use Rattle.std.proofs.Common.{◌≡◌, ℕ, true, List, [], refl, ap}
+use Rattle.crb_port.specs.declared.job.Standing.{Standing}
+use Rattle.crb_history.specs.Base.{fresh}
+use Rattle.crb_history.specs.OneHost.{one_told}
+use Rattle.move_codec.specs.declared.names.HostName.TheVariants.{A}
+use Rattle.move_core.specs.Sides.{is_running}
+use Rattle.vt_seat.specs.Follows.{Follows}
+use Rattle.vt_seat.specs.Seats.{StartsAs, world_of}
+use Rattle.vt_world.specs.Pairs.{PairState, runs_at_a, IsPairReady}
+
+-- A's guest can be accessed.
+pub ready_first : (seed : List ℕ) (piece : ℕ) (w : PairState Standing) → StartsAs A piece w.a → Follows (fresh seed) [] (world_of w.a) → IsPairReady w
+ready_first seed piece w starts follows =
+    let here : runs_at_a w ≡ true = ap is_running starts.runs in
+    record {
+      runs = rw here refl;
+      ready = rw here (fresh seed, [], record { host = one_told (fresh seed) []; follows = follows; unordered = refl; same = refl; legal = tt });
+    }

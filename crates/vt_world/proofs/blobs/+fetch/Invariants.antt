@@ -1,5 +1,0 @@
-use Rattle.std.proofs.Common.{length}
-use Rattle.vt_world.proofs.blobs.+fetch.Given as goal
-
-abbrev pub decreases-fetch : goal.decreases-fetch
-decreases-fetch l = length l.into.now

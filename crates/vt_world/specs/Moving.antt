@@ -1,0 +1,59 @@
+-- A move between two hosts. (Own definitions.)
+use Rattle.std.specs.Prelude.{◌≡◌, ◌+◌, ℕ, Bool, true, false, Option}
+use Rattle.crb_port.specs.Known.{Known}
+use Rattle.crb_worker.specs.declared.progress.Progress.TheVariants.{Free}
+use Rattle.hand_over.specs.Ends.{HasMoved, IsGivenUp, IsCalm}
+use Rattle.hand_over.specs.Start.{CanMove}
+use Rattle.vt_seat.specs.Seats.{SeatState, view_of}
+use Rattle.vt_world.specs.Pairs.{PairState, runs_at_a}
+
+-- the guest at a seat can be moved to the other one; neither worker has a job in hand
+pub record CanMoveTo {P : Type 0} (known : P → Known) (source target : SeatState P) : Type 0 where
+  pub can_move : CanMove known source.host (view_of source) target.host (view_of target)
+  pub free : source.progress ≡ Free
+  pub target_free : target.progress ≡ Free
+
+-- what every move leaves: the source's link as it was, and wires and workers that can serve a next move
+pub record LeavesSeats {P : Type 0} (source target new_source new_target : SeatState P) : Type 0 where
+  pub top : new_source.host.top ≡ source.host.top + 1
+  pub link : new_source.link ≡ source.link
+  pub calm : IsCalm source.link.desk.piece (view_of new_source)
+  pub target_calm : IsCalm target.link.desk.piece (view_of new_target)
+  pub free : new_source.progress ≡ Free
+  pub target_free : new_target.progress ≡ Free
+
+-- a move of which this message is lost, where one is
+pub record Moves {P : Type 0} (known : P → Known) (lost : Option ℕ) (source target new_source new_target : SeatState P) : Type 0 where
+  pub moved : HasMoved known source.host (view_of source) target.host lost new_source.host new_target.host (view_of new_target)
+  pub leaves : LeavesSeats source target new_source new_target
+
+-- a move that the source gave up
+pub record GivesUp {P : Type 0} (known : P → Known) (source target new_source new_target : SeatState P) : Type 0 where
+  pub given_up : IsGivenUp known source.host target.host new_source.host new_target.host
+  pub leaves : LeavesSeats source target new_source new_target
+
+-- ---- of two hosts, by whether A's guest runs
+
+abbrev pub CanMoveFrom : {P : Type 0} → Bool → (P → Known) → PairState P → Type 0
+CanMoveFrom true known w = CanMoveTo known w.a w.b
+CanMoveFrom false known w = CanMoveTo known w.b w.a
+
+abbrev pub MovesFrom : {P : Type 0} → Bool → (P → Known) → Option ℕ → PairState P → PairState P → Type 0
+MovesFrom true known lost old new = Moves known lost old.a old.b new.a new.b
+MovesFrom false known lost old new = Moves known lost old.b old.a new.b new.a
+
+abbrev pub GivesUpFrom : {P : Type 0} → Bool → (P → Known) → PairState P → PairState P → Type 0
+GivesUpFrom true known old new = GivesUp known old.a old.b new.a new.b
+GivesUpFrom false known old new = GivesUp known old.b old.a new.b new.a
+
+-- the guest that runs can be moved
+abbrev pub PairCanMove : {P : Type 0} → (P → Known) → PairState P → Type 0
+PairCanMove known w = CanMoveFrom (runs_at_a w) known w
+
+-- it was moved, or ran on where it was, by the message that was lost
+abbrev pub PairMoves : {P : Type 0} → (P → Known) → Option ℕ → PairState P → PairState P → Type 0
+PairMoves known lost old new = MovesFrom (runs_at_a old) known lost old new
+
+-- it runs on where it was
+abbrev pub PairGivesUp : {P : Type 0} → (P → Known) → PairState P → PairState P → Type 0
+PairGivesUp known old new = GivesUpFrom (runs_at_a old) known old new
