@@ -1,17 +1,7 @@
-//! Runs scripts on one host in one process, a CRB device over an emulator: of guest accesses, worker steps and faults of the
-//! link between the two, or of commands that a polling driver sends. A host is saved at the end of a script, and another run
-//! goes on from what was saved.
+//! Runs scripts on hosts in one process: `script_run` over the program's words, its standard input and its standard output.
 #![tactic(auto)]
 
-mod drive;
-mod output;
-mod replay;
-mod run;
-mod saved;
-mod start;
-mod suspend;
-
-pub use run::run;
+use script_run::run;
 use std::io::ErrorKind;
 use std::process::ExitCode;
 use vt_base::{Status, StdSink, StdSource};
@@ -35,6 +25,6 @@ fn main(rt: HostRuntime) -> ExitCode {
     }
     let mut source = StdSource::new(rt.stdin());
     let mut sink = StdSink::new(rt.stdout());
-    let status = run::run(alloc, &words, &mut source, &mut sink);
+    let status = run(alloc, &words, &mut source, &mut sink);
     ExitCode::from(status.number())
 }

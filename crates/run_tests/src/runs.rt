@@ -1,0 +1,113 @@
+//! Rows of runs: words, an input, which calls fail, and what must come of it.
+ghost use Rattle.std.specs.Prelude.{◌≤◌};
+
+use script_run::run;
+use std::alloc::{AllocError, Global};
+use std::process::Abort;
+use std::test::*;
+use vt_base::{Bytes, MemSink, MemSource, Status};
+
+/// Words, an input, and what must come of it: a status, and what is written.
+type Run = (
+    &'static [&'static str],
+    &'static [u8],
+    Status,
+    &'static [u8],
+);
+
+/// The reads that fail, the writes that fail, how many bytes the sink takes, and what must come of it.
+type FailingRun = (&'static [u64], &'static [u64], usize, Status, &'static [u8]);
+
+/// TPM2_Startup(CLEAR) through the registers, and one step of the worker.
+const CLAIMED: &[u8] = b"w 8 4 1\nw 40 4 1\nw 80 4 180\nw 84 4 c00\nw 88 4 4401\nw 4c 4 1\nwork\n";
+
+/// The saved stream of a host on which no line was done.
+const FRESH: [u8; 101] = [
+    0x43, 0x52, 0x42, 0x53, 1, 0, 0, 0, 0x5C, // the head
+    0x43, 0x52, 0x42, 0x44, 1, 0, 0, 0, 0x0E, 0, 0, 0, 0, 0, 0, 0, 0, 0, 0, 0, 0, 0, 0, 0x43, 0x52,
+    0x42, 0x50, 1, 0, 0, 0, 0x28, 0, 0, 0, 0, 0, 0, 0, 0, 0, 0, 0, 0, 0, 0, 0, 0, 0, 0, 0, 0, 0, 0,
+    0, 0, 0, 0, 0, 0, 0, 0, 0, 0, 0, 0, 0, 0, 0, 0, 0, 1, 0x43, 0x52, 0x42, 0x56, 1, 0, 0, 0, 1, 0,
+    0x43, 0x52, 0x42, 0x5A, 1, 0, 0, 0, 1, 0,
+];
+
+/// Startup, and no random bytes.
+const COMMANDS: &[u8] = b"cmd 80010000000c000001440000\ncmd 80010000000c0000017b0000\n";
+
+const USAGE: &[u8] = b"usage: crbsim replay, drive, suspend, resume, check or bulk\n";
+
+/// Runs in which no call fails.
+const RUNS: [Run; 12] = [
+    (&["replay"], b"", Status::Ok, b""),
+    (
+        &["replay"],
+        b"r 0 4\nx\nr 0 4\n",
+        Status::Script,
+        b"00000081\nbad line 2\n",
+    ),
+    (&["replay"], b"r ffd 4", Status::Script, b"bad line 1\n"),
+    (
+        &["drive"],
+        COMMANDS,
+        Status::Ok,
+        b"80010000000a00000000\n80010000000c000000000000\n",
+    ),
+    (&["drive"], b"move\n", Status::Script, b"bad line 1\n"),
+    (&["suspend"], b"", Status::Ok, &FRESH),
+    (&["suspend"], CLAIMED, Status::NotYet, b"not yet 1\n"),
+    (&["resume"], &FRESH, Status::Ok, b""),
+    (&["check"], &FRESH, Status::Ok, b"saved stream 101 bytes\n"),
+    (&["check"], b"CRBS", Status::Refused, b"refused cut at 4\n"),
+    (&["play"], b"r 0 4\n", Status::Usage, USAGE),
+    (&["bulk", "1", "0"], b"", Status::Usage, USAGE),
+];
+
+/// A script of two lines, whose replies are 18 bytes.
+const TWO_READS: &[u8] = b"r 0 4\nr 0 4\n";
+
+/// Runs of that script in which a call fails. The second read is the one that finds the end of the input.
+const FAILING: [FailingRun; 4] = [
+    (&[1], &[], 1000, Status::ReadFault, b""),
+    (&[2], &[], 1000, Status::ReadFault, b""),
+    (&[], &[1], 1000, Status::WriteFault, b""),
+    (&[], &[], 11, Status::WriteFault, b"00000081\n00"),
+];
+
+// A list of numbers.
+fn list(alloc: Global, numbers: &[u64]) -> Result<Vec<u64>, AllocError> {
+    let mut list = Vec::new(alloc);
+    list.extend_from_slice(numbers)?;
+    Ok(list)
+}
+
+// Runs, and compares the status and what was written.
+fn is_wanted(alloc: Global, run_of: &Run, faults: &FailingRun) -> Result<bool, AllocError> {
+    let (given, input, status, output) = run_of;
+    let (reads, writes, room, _, _) = faults;
+    let mut words = Vec::new(alloc);
+    for word in *given {
+        words.push(String::from_str(alloc, word)?)?;
+    }
+    let bytes = Bytes::from_slice(alloc, input)?;
+    let mut source = MemSource::new(bytes, list(alloc, reads)?);
+    let mut sink = MemSink::new(alloc, *room, list(alloc, writes)?)?;
+    let found = run(alloc, &words, &mut source, &mut sink);
+    Ok(found == *status && sink.bytes() == *output)
+}
+
+#[test]
+fn runs_write_what_is_wanted(rt: HostRuntime) -> Result<(), Fail> {
+    let none: FailingRun = (&[], &[], 1000, Status::Ok, b"");
+    for (i, run_of) in RUNS.iter().enumerate() {
+        assert!(rt; is_wanted(rt.alloc(), run_of, &none)?, "run {i}");
+    }
+    Ok(())
+}
+
+#[test]
+fn runs_whose_calls_fail_say_so(rt: HostRuntime) -> Result<(), Fail> {
+    for (i, faults) in FAILING.iter().enumerate() {
+        let run_of: Run = (&["replay"], TWO_READS, faults.3, faults.4);
+        assert!(rt; is_wanted(rt.alloc(), &run_of, faults)?, "run {i}");
+    }
+    Ok(())
+}

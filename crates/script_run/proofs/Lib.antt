@@ -1,0 +1,9 @@
+pub mod Prefixes
+pub mod Writing
+pub mod Endings
+pub mod Lines
+pub mod Driving
+pub mod Answering
+pub mod Suspending
+pub mod Resuming
+pub mod Inputs

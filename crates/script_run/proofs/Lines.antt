@@ -1,0 +1,44 @@
+-- What is written when a line ends the run.
+use Rattle.std.proofs.Common.{◌≡◌, ℕ, ◌+◌, List, ◌∷◌, ◌++◌, length, inl, inr}
+use Rattle.std.specs.Prelude.{None}
+use Rattle.vt_base.specs.declared.status.Status.{Status}
+use Rattle.script_run.specs.Driven.{command_line}
+use Rattle.vt_script.specs.Script.{lines_of, event_of}
+use Rattle.vt_script.specs.Replies.{reply_text}
+use Rattle.vt_script.specs.declared.drive.DriveLine.{DriveLine}
+use Rattle.crb_history.specs.Base.{Base}
+use Rattle.crb_history.specs.Replies.{Transcript, exchange}
+use Rattle.vt_seat.specs.Follows.{WorldState}
+use Rattle.script_run.specs.Driven.{driven}
+use Rattle.script_run.specs.Start.{start}
+use Rattle.script_run.specs.Output.{SinkView}
+use Rattle.script_run.specs.Run.{IsShort, Leaves, texts, followed, driven_by}
+use Rattle.script_run.specs.Loop.{StandsAt, DrivesAt, HasWritten, Replied, Responded, EndsHere}
+use Rattle.script_run.proofs.Prefixes.{stands-more, stands-gives, stands-bad, drives-more, drives-gives, drives-bad}
+use Rattle.script_run.proofs.Endings.{leaves-bad, leaves-memory, leaves-unflushed, pends-more, pends-to}
+
+pub follow-ends : (b : Base) (script rest : List ℕ) (t : Transcript) (old : WorldState) (text after : List ℕ) (new : WorldState) (number : ℕ) (pending : List ℕ) (first before now : SinkView) (status : Status)
+    → IsShort script → StandsAt b script rest t old → HasWritten first before pending (texts t) → lines_of rest ≡ text ∷ lines_of after → number ≡ length t + 1
+    → EndsHere (event_of text ≡ None) (λ all. Replied b t text pending all new) number pending status before now → Leaves status (followed b script) first now
+follow-ends b script rest t old text after new number pending first before now status short stands w cut count (inl (bad, told)) =
+    leaves-bad (followed b script) first before now (length t) pending (texts t) short (stands-gives b script rest t old stands) w number status (stands-bad b script rest t old text after stands cut bad) count told
+follow-ends b script rest t old text after new number pending first before now status short stands w cut count (inr (inl finishes)) =
+    leaves-memory (followed b script) first before now (length t) pending (texts t) short (stands-gives b script rest t old stands) w status finishes
+follow-ends b script rest t old text after new number pending first before now status short stands w cut count (inr (inr (is, all, replied, broken))) =
+    let further = stands-more b script rest t old new text after replied.line replied.reply stands cut replied.said replied.steps in
+    let more = pends-more first before pending all (reply_text replied.reply) (texts t) w replied.appended in
+    rw is (leaves-unflushed (followed b script) first before now _ all (texts t ++ reply_text replied.reply) short
+    (stands-gives b script after (exchange replied.line replied.reply ∷ t) new further) more broken)
+
+pub drive-ends : (script rest : List ℕ) (lines : List DriveLine) (old : WorldState) (text after : List ℕ) (new : WorldState) (number : ℕ) (pending : List ℕ) (first before now : SinkView) (status : Status)
+    → IsShort script → (drives : DrivesAt script rest lines old) → HasWritten first before pending (driven start.tpm lines) → lines_of rest ≡ text ∷ lines_of after → number ≡ length lines + 1
+    → EndsHere (command_line text ≡ None) (λ all. Responded start drives.history text pending all new) number pending status before now → Leaves status (driven_by script) first now
+drive-ends script rest lines old text after new number pending first before now status short drives w cut count (inl (bad, told)) =
+    leaves-bad (driven_by script) first before now (length lines) pending (driven start.tpm lines) short (drives-gives script rest lines old drives) w number status (drives-bad script rest lines old text after drives cut bad) count told
+drive-ends script rest lines old text after new number pending first before now status short drives w cut count (inr (inl finishes)) =
+    leaves-memory (driven_by script) first before now (length lines) pending (driven start.tpm lines) short (drives-gives script rest lines old drives) w status finishes
+drive-ends script rest lines old text after new number pending first before now status short drives w cut count (inr (inr (is, all, responded, broken))) =
+    let further = drives-more script rest lines old new text after responded.line pending all drives cut responded.said responded.responds in
+    let more = pends-to first before pending all further.response (driven start.tpm lines) (driven start.tpm (responded.line ∷ lines)) w further.appended further.whole in
+    rw is (leaves-unflushed (driven_by script) first before now _ all (driven start.tpm (responded.line ∷ lines)) short
+    (drives-gives script after (responded.line ∷ lines) new further.drives) more broken)

@@ -1,0 +1,18 @@
+use Rattle.std.proofs.Common.{◌≡◌, length, []}
+use Rattle.crb_history.specs.Base.{Base}
+use Rattle.crb_history.specs.Replies.{Transcript}
+use Rattle.vt_seat.specs.Follows.{Follows}
+use Rattle.script_run.specs.Loop.{StandsAt, HasWritten}
+use Rattle.script_run.specs.Output.{seen}
+use Rattle.script_run.specs.Run.{texts}
+use Rattle.script_run.proofs.replay.follow.Given as goal
+
+-- whatever values the host began with, the lines that are done have their replies written, or pending
+abbrev pub invariant-loop-text : goal.invariant-loop-text
+invariant-loop-text g l = record {
+  done : (b : Base) → Follows b [] l.fn.first → (t : Transcript) × StandsAt b l.script l.lines.rest t l.world
+      × HasWritten (seen (g.K.Sink.written l.fn.sink) (g.K.Sink.room l.fn.sink) (g.K.Sink.faults l.fn.sink)) (seen (g.K.Sink.written l.sink) (g.K.Sink.room l.sink) (g.K.Sink.faults l.sink)) l.pending.items (texts t) × (l.lines.number ≡ length t);
+}
+
+abbrev pub decreases-loop-text : goal.decreases-loop-text
+decreases-loop-text g l = length l.lines.rest

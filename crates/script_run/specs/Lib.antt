@@ -1,0 +1,10 @@
+pub mod Start
+pub mod Calls
+pub mod Driven
+pub mod Output
+pub mod Run
+pub mod Words
+pub mod Saved
+pub mod Actions
+pub mod Cursor
+pub mod Loop

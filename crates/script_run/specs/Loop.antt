@@ -1,0 +1,90 @@
+-- Where the loops over the lines stand.
+use Rattle.std.specs.Prelude.{◌≡◌, ◌⊎◌, ℕ, List, [], ◌++◌, map, Option, Some}
+use Rattle.vt_base.specs.declared.status.Status.{Status}
+use Rattle.vt_base.specs.declared.status.Status.TheVariants.{Ok, Memory, NotYet, WriteFault}
+use Rattle.crb_history.specs.Device.{executed}
+use Rattle.crb_history.specs.Event.{History}
+use Rattle.crb_history.specs.Base.{Base}
+use Rattle.crb_history.specs.Replies.{Transcript, IsRun, line_of}
+use Rattle.vt_script.specs.Replies.{reply_text}
+use Rattle.vt_script.specs.Script.{event_of}
+use Rattle.vt_script.specs.declared.drive.DriveLine.{DriveLine}
+use Rattle.vt_script.specs.declared.event.Event.{Event as Line}
+use Rattle.vt_script.specs.declared.reply.Reply.{Reply}
+use Rattle.crb_history.specs.Plain.{ArePlain}
+use Rattle.script_run.specs.Saved.{plain_event_of, not_yet_text}
+use Rattle.script_run.specs.Calls.{IsAtRest, Responds}
+use Rattle.script_run.specs.Driven.{command_line, past_of}
+use Rattle.script_run.specs.Start.{start}
+use Rattle.vt_seat.specs.Follows.{WorldState, Follows, Steps}
+use Rattle.vt_world.specs.Saving.{Saves}
+use Rattle.vt_seat.specs.declared.saving.Saved.TheVariants as saved
+use Rattle.script_run.specs.Output.{SinkView, Wrote, Breaks, Finishes, Flushes, Tells, TellsBadLine}
+use Rattle.script_run.specs.Run.{meanings, in_order, spelled}
+
+-- these lines are done and these bytes are left
+abbrev pub AreDone : {L : Type 0} → (List ℕ → Option L) → List ℕ → List ℕ → List (Option L) → Type 0
+AreDone grammar script rest done = meanings grammar script ≡ done ++ meanings grammar rest
+
+-- the lines of the transcript are done, and the world follows the history
+pub record StandsAt (b : Base) (script rest : List ℕ) (t : Transcript) (world : WorldState) : Type 0 where
+  pub lines : AreDone event_of script rest (in_order line_of t)
+  pub run : IsRun b t
+  pub follows : Follows b t world
+
+-- the commands of these lines are done, and the world waits for the next
+pub record DrivesAt (script rest : List ℕ) (lines : List DriveLine) (world : WorldState) : Type 0 where
+  pub done : AreDone command_line script rest (in_order spelled lines)
+  pub history : History
+  pub rest_at : IsAtRest start history world
+  pub past : executed start history ≡ past_of lines
+
+-- the output so far is written, but for what is pending
+pub record HasWritten (old now : SinkView) (pending output : List ℕ) : Type 0 where
+  pub written : List ℕ
+  pub wrote : Wrote old now written
+  pub parts : written ++ pending ≡ output
+
+-- these lines are done, none of which lets a call fail, and the world follows the history
+pub record SuspendsOn (script rest : List ℕ) (lines : List Line) (t : Transcript) (world : WorldState) : Type 0 where
+  pub done : AreDone plain_event_of script rest (in_order Some lines)
+  pub plain : ArePlain lines
+  pub same : map line_of t ≡ map Some lines
+  pub run : IsRun start t
+  pub follows : Follows start t world
+
+-- ---- one line
+
+-- a line of a replay was done, and its reply is pending behind what was
+pub record Replied (b : Base) (t : Transcript) (text pending now : List ℕ) (new : WorldState) : Type 0 where
+  pub line : Line
+  pub reply : Reply
+  pub said : event_of text ≡ Some line
+  pub steps : Steps b t line reply new
+  pub appended : now ≡ pending ++ reply_text reply
+
+-- the command of a drive line was done, and its response is pending behind what was
+pub record Responded (b : Base) (p : History) (text pending now : List ℕ) (new : WorldState) : Type 0 where
+  pub line : DriveLine
+  pub said : command_line text ≡ Some line
+  pub responds : Responds b p line pending now new
+
+-- the run goes on: what is pending after the line, or a prefix of it, is written
+abbrev pub GoesOn : (List ℕ → Type 0) → List ℕ → SinkView → SinkView → Type 0
+GoesOn Pends after old new = (now : List ℕ) × Pends now × Flushes old new now after
+
+-- the run ends here: at a line that isn't in the grammar, for want of memory, or since what is pending isn't written
+abbrev pub EndsHere : Type 0 → (List ℕ → Type 0) → ℕ → List ℕ → Status → SinkView → SinkView → Type 0
+EndsHere IsBad Pends number pending status old new =
+    (IsBad × TellsBadLine number pending status old new)
+    ⊎ (Finishes Memory (pending ++ []) status old new
+    ⊎ ((status ≡ WriteFault) × (now : List ℕ) × Pends now × Breaks old new now))
+
+-- ---- the end of a suspension
+
+-- the saved stream is written, or the number of the command that is claimed and unfinished, or for want of memory nothing
+abbrev pub WritesSaved : Base → Transcript → Status → SinkView → SinkView → Type 0
+WritesSaved b t status old new =
+    ((stream : List ℕ) × Saves b t saved.Whole [] stream × Finishes Ok (stream ++ []) status old new)
+    ⊎ (((number : ℕ) × (stream : List ℕ) × Saves b t (saved.NotYet number) [] stream × Tells NotYet (not_yet_text number) status old new)
+    ⊎ ((status ≡ Memory) × (new ≡ old)))

@@ -1,0 +1,120 @@
+-- What the commands write that save a host, go on from a saved one, or check what was saved. (Own definitions.)
+use Rattle.std.specs.Prelude.{◌≡◌, ◌≢◌, ℕ, true, List, [], ◌∷◌, ◌++◌, length, take, slice_get, Option, Some, None, option_and_then}
+use Rattle.std.specs.Fmt.{decimal}
+use lib.Chars.{codes}
+use Rattle.vt_base.specs.declared.status.Status.{Status}
+use Rattle.vt_base.specs.declared.status.Status.TheVariants.{Ok, Refused, NotYet}
+use Rattle.vt_base.specs.declared.words.Malformed.{Malformed}
+use Rattle.vt_base.specs.declared.words.Why.{Why}
+use Rattle.vt_base.specs.declared.words.Why.TheVariants.{Magic, Version, Length, Value, Cut, Extra}
+use Rattle.vt_script.specs.Replies.{numbered}
+use Rattle.vt_script.specs.Script.{event_of}
+use Rattle.vt_script.specs.declared.event.Event.{Event as Line}
+use Rattle.vt_script.specs.declared.event.Event.TheVariants.{Access, Work, Ask, Reset, Fail}
+use Rattle.crb_history.specs.Base.{Base}
+use Rattle.crb_history.specs.Event.{History}
+use Rattle.crb_history.specs.Device.{number_of}
+use Rattle.crb_history.specs.Continued.{base_after, MaySuspend}
+use Rattle.crb_history.specs.Plain.{plain_history}
+use Rattle.crb_history.specs.Replies.{is_under_way}
+use Rattle.saved_stream.specs.Streams.{stream_text, IsStream}
+use Rattle.saved_stream.specs.Refusals.{IsStreamRefused}
+use Rattle.script_run.specs.Run.{Reading, meanings, in_order, followed}
+use Rattle.script_run.specs.Start.{start}
+
+-- ---- the texts
+
+-- the word of a reason
+abbrev pub word_of : Why → List ℕ
+word_of Magic = codes "magic"
+word_of Version = codes "version"
+word_of Length = codes "length"
+word_of Value = codes "value"
+word_of Cut = codes "cut"
+word_of Extra = codes "extra"
+
+-- why, and where, bytes are no saved stream
+abbrev pub refused_text : Malformed → List ℕ
+refused_text fault = codes "refused " ++ word_of fault.why ++ numbered (codes " at ") fault.place
+
+-- how long a saved stream is
+abbrev pub whole_text : ℕ → List ℕ
+whole_text size = codes "saved stream " ++ (decimal size ++ (codes " bytes" ++ 10 ∷ []))
+
+-- the number of a command that is claimed and unfinished
+abbrev pub not_yet_text : ℕ → List ℕ
+not_yet_text number = numbered (codes "not yet ") number
+
+-- ---- suspend
+
+-- the lines of a suspension: a host on which a call is to fail isn't saved
+abbrev pub plain_line : Line → Option Line
+plain_line (Access access) = Some (Access access)
+plain_line Work = Some Work
+plain_line Ask = Some Ask
+plain_line Reset = Some Reset
+plain_line (Fail host call) = None
+
+abbrev pub plain_event_of : List ℕ → Option Line
+plain_event_of text = option_and_then plain_line (event_of text)
+
+-- all lines are these, the latest first
+abbrev pub AreLines : List ℕ → List Line → Type 0
+AreLines script lines = meanings plain_event_of script ≡ in_order Some lines
+
+-- the saved stream of the values at the end of the one history that the lines have, or the number of the command that is
+-- claimed and unfinished then
+abbrev pub SuspendsAt : History → Status → List ℕ → Type 0
+SuspendsAt p Ok output = MaySuspend start p × (output ≡ stream_text (base_after start p))
+SuspendsAt p NotYet output = (is_under_way start p ≡ true) × (output ≡ not_yet_text (number_of start p))
+SuspendsAt p status output = ⊥
+
+-- as a script of `suspend`: its lines have no replies
+abbrev pub suspended : List ℕ → Reading
+suspended script = record {
+  input = script;
+  Gives = λ n output. (lines : List Line) × (in_order Some lines ≡ take (length lines) (meanings plain_event_of script)) × (length lines ≡ n) × (output ≡ []);
+  IsBad = λ n. slice_get (meanings plain_event_of script) n ≡ Some None;
+  Ends = λ status output. (lines : List Line) × AreLines script lines × SuspendsAt (plain_history start lines) status output;
+}
+
+-- ---- resume
+
+-- the input is a saved stream, which spells these values, and then a script
+pub record Resumption (input : List ℕ) : Type 0 where
+  pub base : Base
+  pub stream : List ℕ
+  pub script : List ℕ
+  pub whole : input ≡ stream ++ script
+  pub spells : IsStream stream base
+
+-- the first bytes are no saved stream; bytes behind one are the script
+abbrev pub IsFrontRefused : Malformed → List ℕ → Type 0
+IsFrontRefused fault input = IsStreamRefused fault input × (fault.why ≢ Extra)
+
+abbrev pub ResumesTo : List ℕ → Status → List ℕ → Type 0
+ResumesTo input Refused output = (fault : Malformed) × IsFrontRefused fault input × (output ≡ refused_text fault)
+ResumesTo input status output = (from : Resumption input) × (followed from.base from.script).Ends status output
+
+abbrev pub resumed : List ℕ → Reading
+resumed input = record {
+  input = input;
+  Gives = λ n output. (from : Resumption input) × (followed from.base from.script).Gives n output;
+  IsBad = λ n. (from : Resumption input) × (followed from.base from.script).IsBad n;
+  Ends = ResumesTo input;
+}
+
+-- ---- check
+
+abbrev pub ChecksTo : List ℕ → Status → List ℕ → Type 0
+ChecksTo input Ok output = (b : Base) × IsStream input b × (output ≡ whole_text (length input))
+ChecksTo input Refused output = (fault : Malformed) × IsStreamRefused fault input × (output ≡ refused_text fault)
+ChecksTo input status output = ⊥
+
+abbrev pub checked : List ℕ → Reading
+checked input = record {
+  input = input;
+  Gives = λ n output. output ≡ [];
+  IsBad = λ n. ⊥;
+  Ends = ChecksTo input;
+}

@@ -1,0 +1,65 @@
+//! The command `suspend`: the lines of a script are done, and the host is saved.
+ghost use Rattle.std.specs.Prelude.{◌≡◌, ◌≢◌};
+ghost use Rattle.crb_history.specs.Base.{Base};
+ghost use Rattle.crb_history.specs.Replies.{Transcript};
+ghost use Rattle.vt_world.specs.Saving.{CanSave};
+ghost use Rattle.script_run.specs.Loop.{WritesSaved};
+ghost use Rattle.script_run.specs.Output.{seen};
+ghost use Rattle.script_run.specs.Run.{IsShort, Leaves};
+ghost use Rattle.script_run.specs.Saved.{suspended, plain_event_of};
+
+use crate::cursor::ScriptLines;
+use crate::output::{bad_line, not_yet, write_and_end};
+use crate::start::start;
+use crb_history::plain_runs_are_one;
+use std::alloc::Global;
+use vt_base::{Sink, Status};
+use vt_script::{Event, parse_line};
+use vt_world::{Saved, World};
+
+/// Does the lines of a script on a new device, and writes the saved stream of the host at their end.
+pub fn suspend<K: Sink>(alloc: Global, script: &[u8], sink: &mut K) -> Status
+    requires { IsShort script.now }
+    ensures writes { Leaves result (suspended script.now) (seen (K.written sink.old) (K.room sink.old) (K.faults sink.old))
+        (seen (K.written sink.new) (K.room sink.new) (K.faults sink.new)) }
+{
+    let Ok(mut world) = start(alloc) else {
+        return Status::Memory;
+    };
+    let mut lines = ScriptLines::new(script);
+    while let Some(text) = lines.next() {
+        let Some(line) = plain_line(text) else {
+            drop(world);
+            return bad_line(alloc, lines.number(), &[], sink);
+        };
+        world.step(&line);
+    }
+    plain_runs_are_one();
+    let status = save(alloc, &mut world, sink);
+    drop(world);
+    status
+}
+
+// Writes the saved stream of a host.
+fn save<K: Sink>(alloc: Global, world: &mut World, sink: &mut K) -> Status
+    requires { (b : Base) × (t : Transcript) × CanSave b t world.old }
+    ensures writes { (b : Base) (t : Transcript) → CanSave b t world.old → WritesSaved b t result (seen (K.written sink.old) (K.room sink.old) (K.faults sink.old))
+        (seen (K.written sink.new) (K.room sink.new) (K.faults sink.new)) }
+{
+    let mut stream = Vec::new(alloc);
+    match world.save(alloc, &mut stream) {
+        Ok(Saved::Whole) => write_and_end(sink, &stream, &[], Status::Ok),
+        Ok(Saved::NotYet(number)) => not_yet(alloc, number, sink),
+        Err(_) => Status::Memory,
+    }
+}
+
+// What a line of a suspension asks for. A host on which a call is to fail isn't saved.
+fn plain_line(text: &[u8]) -> Option<Event>
+    ensures { result ≡ plain_event_of text.now }
+{
+    match parse_line(text)? {
+        line @ (Event::Access(_) | Event::Work | Event::Ask | Event::Reset) => Some(line),
+        Event::Fail { .. } => None,
+    }
+}
