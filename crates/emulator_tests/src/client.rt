@@ -296,10 +296,10 @@ const FETCHED: [(Reply, Fetched); 22] = [
             false,
         ),
     ),
-    // Result 3; flags 1; an offset of 11 in 10 bytes.
+    // Result 3 with no data behind it, which cuts nothing, and with data; flags 1; an offset of 11 in 10 bytes.
     (
         (0, 4096, 0, [3, 0, 0, 0], 26),
-        (Err(ClientFault::Result(3)), NOTHING, 16, true),
+        (Err(ClientFault::Result(3)), NOTHING, 16, false),
     ),
     (
         (0, 4096, 0, [3, 1, 0, 9], 26),
