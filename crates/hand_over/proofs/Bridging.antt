@@ -411,7 +411,7 @@ module _ {P Plan : Type 0} (known : P → Known) (size : PieceSizes) (h : HostMo
           (record {
             host = ap (λ (c : Parts). record { side = side.Prepared e; top = h.top; content = c; totals = totals; next = Saved; place = place + length bytes }) content;
             quiet = leaves.quiet (quiet stands.quiet);
-            ready = (on.tpm, tpm, on.assembled.fit);
+            ready = (on.tpm, tpm, on.assembled.fit, record { on = ap (λ (d : Desk). d.on) on.desk; stored = ap (λ (d : Desk). d.stored) on.desk; gathers = ap (λ (d : Desk). d.gathers) on.desk });
             record_pieces = stands.record_pieces;
             blob_pieces = leaves.piece ∙ piece ∙ stands.blob_pieces;
           })

@@ -1,6 +1,6 @@
 -- One turn of a move from hand to hand.
 use Rattle.std.proofs.Common.{◌≡◌, ℕ, suc, ◌+◌, ◌*◌, ◌<◌, ◌≤◌, Bool, true, false, List, [], ◌++◌, length, Option, Some, None, Ok, Err, refl, sym, ap, subst, ◌∙◌, arith}
-use Rattle.std.specs.Prelude.{Result, IfSome, ◌^◌, if◌then◌else◌, nat_lt, ◌==◌, ◌&&◌}
+use Rattle.std.specs.Prelude.{Result, IfSome, IsSomeAnd, ◌^◌, if◌then◌else◌, nat_lt, ◌==◌, ◌&&◌}
 use Rattle.vt_base.specs.declared.words.Kind.{Kind}
 use Rattle.vt_base.specs.declared.words.Kind.TheVariants as kind
 use Rattle.crb_port.specs.Known.{Known}
@@ -32,7 +32,7 @@ use Rattle.move_core.specs.declared.side.Side.TheVariants as side
 use Rattle.move_core.specs.declared.answers.Delivered.{Delivered}
 use Rattle.move_core.specs.declared.answers.Delivered.TheVariants as delivers
 use Rattle.move_core.specs.Model.{HostModel}
-use Rattle.move_core.specs.Sides.{side_of, is_same, total_of}
+use Rattle.move_core.specs.Sides.{side_of, is_same, total_of, holds_device}
 use Rattle.move_core.specs.Sides as sides
 use Rattle.move_core.specs.Hosts.{restored}
 use Rattle.vt_base.specs.declared.words.Malformed.{Malformed}
@@ -45,10 +45,10 @@ use Rattle.move_core.specs.Calls.{Follows, HasBytes, IsNeed, EndsIn, SettlesBy, 
 use Rattle.hand_over.specs.Parts.{Parts, PieceSizes, size_for, part_of, lengths, slice, filled}
 use Rattle.hand_over.specs.Host.{HostState, After, other}
 use Rattle.hand_over.specs.Host as model
-use Rattle.hand_over.specs.Bridge.{standing, model_of, IsReady, StandsFor}
+use Rattle.hand_over.specs.Bridge.{standing, model_of, HasStarted, IsReady, StandsFor}
 use Rattle.hand_over.specs.Fine.{IsFineFor, IsUndisturbed, IsSureStep, offered_by}
 use Rattle.hand_over.specs.Moving.{fills, IsSource, ToTarget, ToSource, AreMoving, to_target, to_source, TargetGoes, IsHandedOver, IsSameTarget}
-use Rattle.hand_over.specs.Counts.{blob_piece, tpm_behind, sizes_at, parts_at, pieces_from, pieces_left, messages_after, messages_left}
+use Rattle.hand_over.specs.Counts.{blob_piece, tpm_behind, commands_at, sizes_at, parts_at, pieces_from, pieces_left, messages_after, messages_left}
 use Rattle.hand_over.specs.Ends.{IsCalm}
 use Rattle.hand_over.proofs.Ceilings.{left_step}
 use Rattle.hand_over.specs.Moving.ToTarget.{PieceComes, CommitComes}
@@ -58,6 +58,7 @@ use Rattle.hand_over.proofs.Slices.{slice_again}
 use Rattle.hand_over.proofs.Turns.{same, Turned, piece_size, target_turns, source_turns}
 use Rattle.hand_over.proofs.Turns.Turned.{Asks, Ends}
 use Rattle.hand_over.proofs.Undisturbed.{FieldsFor, still}
+use Rattle.hand_over.proofs.Commanding.{commands_kept}
 
 pub either : {A : Type 0} (b : Bool) (x y : A) (P : A → Type 0) → P x → P y → P (if b then x else y)
 either true x y P this that = this
@@ -409,6 +410,12 @@ module _ {P Plan : Type 0} (known : P → Known) (sure : AreSure Plan known) (so
   pub target_pieces : blob_piece after.link ≡ blob_piece v.link
   target_pieces = ap blob_piece target_step.is_link ∙ target_step.stands.blob_pieces ∙ sym a.target_stands.blob_pieces ∙ sym (ap blob_piece a.to_is)
 
+  -- and it holds the command that it held
+  pub target_commands : commands_at after.link ≡ commands_at v.link
+  target_commands =
+      commands_kept known (table.delivered target m) v after a.to answer new a.to_is a.target_stands.quiet (target_none a.size a.epoch (offered_by a.values a.tpm) source.name a.x a.y target a.to m a.turn) follows
+      ∙ sym (ap commands_at a.to_is)
+
   pub target_calm : IsCalm (blob_piece v.link) after
   target_calm = record {
     link = target_step.link;
@@ -597,9 +604,13 @@ module _ {P Plan : Type 0} (known : P → Known) (source : HostModel P) (w : Wir
             released = released_at source.stage source a.from.desk a.x a.epoch a.source_stands.host let_go;
             prepared = stage;
             values = all.0 ∙ sym a.held;
+            held = a.target_sound.matches_side.held ∙ ap holds_device stage;
+            sound = a.target_sound.device;
             goes_on = goes.resumes.device;
             calm = subst (λ (s : WiresView Plan). IsCalm (blob_piece s.link) s) (sym goes.wires) (record { link = a.to; is_link = a.to_is; quiet = a.target_stands.quiet; pieces = sym (ap blob_piece a.to_is); undisturbed = a.to_fine });
             tpm = ap (λ (s : WiresView Plan). tpm_behind s.link) goes.wires ∙ ap tpm_behind a.to_is ∙ all.1 ∙ sym (ap tpm_behind a.from_is ∙ a.has);
+            started = subst (λ (o : Option Link). IsSomeAnd o (λ l. HasStarted l.desk)) (sym (ap (λ (s : WiresView Plan). s.link) goes.wires ∙ a.to_is))
+                (subst (λ (s : MoveStage). IsReady s a.to.desk) stage a.target_stands.ready).3;
           }
 
 -- the source answers

@@ -8,6 +8,7 @@ pub mod Sure
 pub mod Sureness
 pub mod Certain
 pub mod Undisturbed
+pub mod Commanding
 pub mod Turns
 pub mod Hands
 pub mod Held

@@ -249,8 +249,11 @@ arrived {P} {Plan} known source w target new v sound sound_too handed =
       filled = target.device;
       values = handed.values;
       port = refl;
+      held = handed.held;
+      sound = handed.sound;
       goes_on = handed.goes_on;
       tpm_is = handed.tpm;
+      started = handed.started;
     }
 
 -- the same of the hosts as they were before
@@ -262,7 +265,7 @@ ends_from {P} {Plan} b known first source target_first target tpm new_source new
     at_source : (b : Bool) → Ends b known source source.device tpm target source.top new_source new_target v → Ends b known first first.device tpm target first.top new_source new_target v
     at_source true e =
         let s = subst (λ (h : HostModel P). Arrives known h h.device tpm target h.top new_source new_target v) same_source e in
-        record { source_is = s.source_is; target_is = s.target_is; filled = s.filled; values = s.values; port = s.port; goes_on = s.goes_on; tpm_is = s.tpm_is }
+        record { source_is = s.source_is; target_is = s.target_is; filled = s.filled; values = s.values; port = s.port; held = s.held; sound = s.sound; goes_on = s.goes_on; tpm_is = s.tpm_is; started = s.started }
     at_source false e =
         let s = subst (λ (h : HostModel P). IsTakenBack known h h.device target h.top new_source new_target) same_source e in
         (record { source_is = s.0.source_is; goes_on = s.0.goes_on }, s.1)
@@ -277,8 +280,11 @@ ends_from {P} {Plan} b known first source target_first target tpm new_source new
       filled = e.filled;
       values = e.values;
       port = e.port ∙ same_target.port;
+      held = e.held;
+      sound = e.sound;
       goes_on = e.goes_on;
       tpm_is = e.tpm_is;
+      started = e.started;
     }
     at_target false e = (e.0, (e.1.0 ∙ host_from Empty first.top new_target.device, e.1.1 ∙ same_target.port))
 

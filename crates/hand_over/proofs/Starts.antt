@@ -57,12 +57,13 @@ use Rattle.hand_over.specs.Fine.{IsFineFor, IsUndisturbed, offered_by}
 use Rattle.hand_over.specs.Moving.{fills, AreMoving, to_source}
 use Rattle.hand_over.specs.Moving.ToSource.{NeedComes}
 use Rattle.hand_over.specs.Start.{OfferComes, to_begin, CanStop, CanMove, emptied}
-use Rattle.hand_over.specs.Counts.{blob_piece, tpm_behind, sizes_at, parts_at, pieces_from, messages_left}
+use Rattle.hand_over.specs.Counts.{blob_piece, tpm_behind, commands_at, sizes_at, parts_at, pieces_from, messages_left}
 use Rattle.hand_over.proofs.Ceilings.{left_all}
 use Rattle.hand_over.proofs.Pieces.{sent_sure}
 use Rattle.hand_over.proofs.Turns.{same}
 use Rattle.hand_over.proofs.Offering.{offered, link_after}
 use Rattle.hand_over.proofs.Undisturbed.{FieldsFor, fetched_still, still}
+use Rattle.hand_over.proofs.Commanding.{commands_kept}
 use Rattle.hand_over.proofs.Hands.{AreSure, either, NeedsNoField}
 
 -- ---- how long what is offered is
@@ -195,6 +196,7 @@ pub record OfferTaken {P Plan : Type 0} (known : P → Known) (source : HostMode
   pub moving : AreMoving known (to_source reply) source w new v
   pub rest : new ≡ record target { top = source.top; stage = new.stage; record_bytes = new.record_bytes }
   pub pieces : blob_piece v.link ≡ blob_piece was.link
+  pub commands : commands_at v.link ≡ commands_at was.link
   pub count : suc (messages_left source w.link reply) ≡ messages_left source w.link m
 
 pub offer_taken : {P Plan : Type 0} (known : P → Known) → AreSure Plan known → BlobSizes
@@ -217,6 +219,9 @@ offer_taken {P} {Plan} known sure sizes source w target new v after m answer res
       says = step.answer_is ∙ ap (λ (x : After). x.answer) row;
       rest = takes.rest ∙ ap (λ (e : ℕ). record target { top = e; stage = new.stage; record_bytes = new.record_bytes }) top;
       pieces = ap blob_piece step.is_link ∙ step.stands.blob_pieces ∙ sym a.target_stands.blob_pieces ∙ sym (ap blob_piece a.to_is);
+      commands =
+          commands_kept known (table.delivered (emptied target) m) v after a.to answer new a.to_is a.target_stands.quiet (offer_none (emptied target) a.to source.name a.epoch (lengths parts) m a.turn.says) as_empty
+          ∙ sym (ap commands_at a.to_is);
       count =
           omega (arith, left_all (sizes_at source w.link) (parts_at source w.link))
           ∙ ap (λ (m : Message). messages_left source w.link m) (sym a.turn.says);
@@ -311,7 +316,7 @@ not_busy {P} known d e can busy = by (known d.port).state refl
     found s is (inr step) = absurd (let e = sym is ∙ step.1 in cc)
 
     by : (o : Option Standing) → (known d.port).state ≡ o → ⊥
-    by None is = absurd (let free = can.unknown_state (ap (option_map (placed_at d.regs d.number d.home)) is) in let other = busy.pulls.1 in cc)
+    by None is = absurd (let free = (can.unknown_state (ap (option_map (placed_at d.regs d.number d.home)) is)).0 in let other = busy.pulls.1 in cc)
     by (Some s) is = found s is busy.pulls.2
 
 -- what is known of stopped devices
@@ -322,12 +327,14 @@ AreStopped {P} known = (d e : DeviceModel P) → IsSound known d → d.held ≡ 
 not_lost : {P : Type 0} (known : P → Known) (d e : DeviceModel P) → AreStopped known → IsSound known d → d.held ≡ false → CanStop known d → DeviceStops known d (Ok tt) e → is_lost e.regs.phase ≡ false
 not_lost {P} known d e law sound running can stops = by (known d.port).state refl
   where
-    at_home : (home : Option (List ℕ)) → d.home ≡ home → is_some home ≡ true → ComesHomeAt home known d e → is_lost e.regs.phase ≡ false
-    at_home (Some buf) is some comes = ap (λ (x : DeviceModel P). is_lost x.regs.phase) comes ∙ can.working
-    at_home None is some comes = absurd cc
+    at_home : (home : Option (List ℕ)) → d.home ≡ home → is_some home ≡ true → is_lost d.regs.phase ≡ false → ComesHomeAt home known d e → is_lost e.regs.phase ≡ false
+    at_home (Some buf) is some working comes = ap (λ (x : DeviceModel P). is_lost x.regs.phase) comes ∙ working
+    at_home None is some working comes = absurd cc
 
     by : (o : Option Standing) → (known d.port).state ≡ o → is_lost e.regs.phase ≡ false
-    by None is = at_home d.home refl (sym sound.port ∙ can.unknown_state (ap (option_map (placed_at d.regs d.number d.home)) is)) stops
+    by None is =
+        let free = can.unknown_state (ap (option_map (placed_at d.regs d.number d.home)) is) in
+        at_home d.home refl (sym sound.port ∙ free.0) free.1 stops
     by (Some s) is =
         let state : state_of known d ≡ Some (placed_at d.regs d.number d.home s) = ap (option_map (placed_at d.regs d.number d.home)) is in
         let values = subst (λ (o : Option DeviceState). IfSome o (λ s. held_values e ≡ values_at (collected s))) state (law d e sound running stops) in

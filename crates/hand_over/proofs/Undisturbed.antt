@@ -34,7 +34,7 @@ blob_open true type bytes d turn t = ap (λ (t : Turn). t.desk.closed) t
 blob_open false type bytes d turn t = taken_open (kind_of type) bytes d turn t
 
 -- a quiet link is there after a piece was given, and is quiet
-put_quiet : (k : Kind) (bytes : List ℕ) (l : Link) (r : Result (Unit {0}) ClientFault) (after : Option Link) → IsQuiet l → Outcome (SetStateBlob 0 (type_of k) (length bytes)) bytes l r after → (m : Link) × (after ≡ Some m) × IsQuiet m
+pub put_quiet : (k : Kind) (bytes : List ℕ) (l : Link) (r : Result (Unit {0}) ClientFault) (after : Option Link) → IsQuiet l → Outcome (SetStateBlob 0 (type_of k) (length bytes)) bytes l r after → (m : Link) × (after ≡ Some m) × IsQuiet m
 put_quiet k bytes l r after quiet (Unsent is same) = (l, same, quiet)
 put_quiet k bytes l r after quiet (Obeyed turn obeys same said) =
     (record l { desk = turn.desk }, same, record { nothing = quiet.nothing; listens = blob_open l.desk.on (type_of k) bytes l.desk turn obeys ∙ quiet.listens })

@@ -3,7 +3,7 @@ use Rattle.std.proofs.Common.{◌≡◌, ℕ, ◌+◌, ◌<◌, ◌≤◌, Bool,
 use Rattle.std.specs.Prelude.{◌==◌, Result, Err, OnOk, OnErr}
 use Rattle.std.proofs.lemmas.Bool.{cond-false, ne_eqb}
 use Rattle.crb_port.specs.Known.{Known}
-use Rattle.crb_machine.specs.Over.{Stops as DeviceStops}
+use Rattle.crb_machine.specs.Over.{IsSound, Stops as DeviceStops}
 use Rattle.crb_machine.specs.Model.{DeviceModel}
 use Rattle.ctrl_client.specs.Link.{Link}
 use Rattle.move_codec.specs.declared.message.Message.{Message}
@@ -11,8 +11,8 @@ use Rattle.move_core.specs.Model.{HostModel}
 use Rattle.move_core.specs.declared.side.Side.TheVariants as side
 use Rattle.move_core.specs.declared.stage.MoveStage.{MoveStage}
 use Rattle.move_core.specs.declared.stage.MoveStage.TheVariants.{Empty, Running, Offering, Released, Filling, Prepared}
-use Rattle.move_core.specs.Hosts.{IsAtTop}
-use Rattle.move_core.specs.Sides.{side_of}
+use Rattle.move_core.specs.Hosts.{IsConsistentHost, IsAtTop}
+use Rattle.move_core.specs.Sides.{side_of, holds_device}
 use Rattle.move_core.specs.Requests.{WiresView}
 use Rattle.hand_over.specs.Counts.{tpm_behind, pieces_from, loses, arrives}
 use Rattle.hand_over.specs.Ends.{host_as, RunsOn, IsLeft, IsTakenBack, Ends, MoveEnds, HasMoved, IsGivenUp}
@@ -22,6 +22,10 @@ use Rattle.hand_over.specs.Losses.{Resumed, aborted}
 use Rattle.hand_over.proofs.Hands.{side_is}
 use Rattle.hand_over.proofs.Starts.{offering_top}
 use Rattle.hand_over.proofs.Losses.{lost_at, arrives_not}
+
+-- the device of a host that runs isn't held
+pub runs_free : {P : Type 0} (known : P → Known) (h : HostModel P) → IsConsistentHost known h → h.stage ≡ Running → h.device.held ≡ false
+runs_free known h sound runs = sound.matches_side.held ∙ ap holds_device runs
 
 -- the host that offered, as it was before
 abbrev pub HasOffered : {P : Type 0} → HostModel P → HostModel P → Type 0
@@ -56,10 +60,13 @@ left_before source mid target taken new is takes left = (
 
 -- a move that began ends as its rest does
 pub ends_before : {P Plan : Type 0} (known : P → Known) (source : HostModel P) (w : WiresView Plan) (mid : HostModel P) (link : Option Link) (target taken : HostModel P) (lost : Option ℕ) (new_source new_target : HostModel P) (after : WiresView Plan)
+    → IsSound known source.device → source.device.held ≡ false
     → DeviceStops known source.device (Ok tt) mid.device → HasOffered source mid → link ≡ w.link → HasTaken target mid.top taken → loses lost 1 ≡ false
     → Ends (arrives (pieces_from mid link) lost) known mid mid.device (tpm_behind link) taken mid.top new_source new_target after
     → HasMoved known source w target lost new_source new_target after
-ends_before {P} {Plan} known source w mid link target taken lost new_source new_target after stops is same takes first ends = record {
+ends_before {P} {Plan} known source w mid link target taken lost new_source new_target after sound runs stops is same takes first ends = record {
+  sound = sound;
+  runs = runs;
   stopped = mid.device;
   stops = stops;
   ends = subst (λ (b : Bool). MoveEnds (arrives (pieces_from (record source { device = mid.device }) w.link) lost) b known source mid.device (tpm_behind w.link) target (source.top + 1) new_source new_target after) (sym first)
@@ -75,15 +82,21 @@ ends_before {P} {Plan} known source w mid link target taken lost new_source new_
       filled = e.filled;
       values = e.values;
       port = e.port ∙ ap (λ (h : HostModel P). h.device.port) takes;
+      held = e.held;
+      sound = e.sound;
       goes_on = e.goes_on;
       tpm_is = e.tpm_is;
+      started = e.started;
     }
     by false e = (runs_before known source mid new_source mid.device is e.0, left_before source mid target taken new_target is takes e.1)
 
 pub back_before : {P : Type 0} (known : P → Known) (source mid target taken new_source new_target : HostModel P)
+    → IsSound known source.device → source.device.held ≡ false
     → DeviceStops known source.device (Ok tt) mid.device → HasOffered source mid → HasTaken target mid.top taken
     → IsTakenBack known mid mid.device taken mid.top new_source new_target → IsGivenUp known source target new_source new_target
-back_before {P} known source mid target taken new_source new_target stops is takes back = record {
+back_before {P} known source mid target taken new_source new_target sound runs stops is takes back = record {
+  sound = sound;
+  runs = runs;
   stopped = mid.device;
   stops = stops;
   taken_back = (runs_before known source mid new_source mid.device is back.0, left_before source mid target taken new_target is takes back.1);
@@ -106,10 +119,13 @@ begun_offers known source w target v m a =
 
 -- the Offer was lost
 pub first_lost : {P Plan : Type 0} (known : P → Known) (source : HostModel P) (w : WiresView Plan) (mid : HostModel P) (target : HostModel P) (lost : Option ℕ) (new_source new_target : HostModel P) (after : WiresView Plan)
+    → IsSound known source.device → source.device.held ≡ false
     → DeviceStops known source.device (Ok tt) mid.device → HasOffered source mid → IsAtTop target.stage target.top → target.top ≤ source.top → loses lost 1 ≡ true
     → Resumed known mid new_source → new_target ≡ aborted target.stage mid.top target
     → HasMoved known source w target lost new_source new_target after
-first_lost {P} {Plan} known source w mid target lost new_source new_target after stops is at below first resumes aborts = record {
+first_lost {P} {Plan} known source w mid target lost new_source new_target after sound runs stops is at below first resumes aborts = record {
+  sound = sound;
+  runs = runs;
   stopped = mid.device;
   stops = stops;
   ends = subst (λ (b : Bool). MoveEnds (arrives (pieces_from (record source { device = mid.device }) w.link) lost) b known source mid.device (tpm_behind w.link) target (source.top + 1) new_source new_target after) (sym first)

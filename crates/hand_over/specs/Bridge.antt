@@ -1,11 +1,11 @@
 -- A host over its link, and the host of the model that it stands for. (Own definitions.)
-use Rattle.std.specs.Prelude.{◌≡◌, ◌<◌, ◌^◌, ℕ, false, List, [], length, Option, Some}
+use Rattle.std.specs.Prelude.{◌≡◌, ◌<◌, ◌^◌, ℕ, true, false, List, [], length, Option, Some}
 use Rattle.vt_base.specs.declared.words.Kind.{Kind}
 use Rattle.vt_base.specs.declared.words.Kind.TheVariants as kind
 use Rattle.tpm_core.specs.declared.parts.TpmParts.{TpmParts}
 use Rattle.tpm_core.specs.Steps.{IsFit}
 use Rattle.state_blobs.specs.Texts.{text_of}
-use Rattle.ctrl_client.specs.Desk.{Desk, Gathers}
+use Rattle.ctrl_client.specs.Desk.{Desk, Gathers, no_gathers}
 use Rattle.ctrl_client.specs.Link.{Link}
 use Rattle.ctrl_client.specs.Exchange.{IsQuiet}
 use Rattle.ctrl_client.specs.Pieces.{text_of_tpm}
@@ -51,12 +51,18 @@ HasVolatile Permanent place totals bytes = bytes ≡ []
 HasVolatile Volatile place totals bytes = length bytes ≡ place
 HasVolatile Saved place totals bytes = length bytes ≡ total_of totals Volatile
 
+-- an emulator whose TPM was just switched on: its volatile state wasn't stored, and nothing is gathered
+pub record HasStarted (d : Desk) : Type 0 where
+  pub on : d.on ≡ true
+  pub stored : d.stored ≡ false
+  pub gathers : d.gathers ≡ no_gathers
+
 -- the emulator behind a host that offers has a TPM, whose blobs have lengths that fit; behind one that fills it is off; and
--- behind one that is prepared it has a TPM whose values can be
+-- behind one that is prepared it was switched on with a TPM whose values can be
 abbrev pub IsReady : MoveStage → Desk → Type 0
 IsReady (Offering e totals) d = (t : TpmParts) × (d.tpm ≡ Some t) × ((k : Kind) → length (text_of k t) < 2 ^ 32)
 IsReady (Filling e totals part place) d = (d.on ≡ false) × HasVolatile part place totals d.gathers.volatile
-IsReady (Prepared e) d = (t : TpmParts) × (d.tpm ≡ Some t) × IsFit t
+IsReady (Prepared e) d = (t : TpmParts) × (d.tpm ≡ Some t) × IsFit t × HasStarted d
 IsReady _ d = Unit {0}
 
 -- the host over this link stands for this host of the model, with pieces of this size

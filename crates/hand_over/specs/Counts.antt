@@ -4,7 +4,8 @@ use Rattle.std.specs.Int.{div_ceil}
 use Rattle.crb_machine.specs.Values.{held_values}
 use Rattle.device_record.specs.Records.{record_text}
 use Rattle.tpm_core.specs.declared.parts.TpmParts.{TpmParts}
-use Rattle.ctrl_client.specs.Link.{Link}
+use Rattle.ctrl_client.specs.Desk.{Held}
+use Rattle.ctrl_client.specs.Link.{Link, Lane}
 use Rattle.move_codec.specs.declared.names.Part.{Part}
 use Rattle.move_codec.specs.declared.names.Part.TheVariants.{Record, Permanent, Volatile, Saved}
 use Rattle.move_codec.specs.declared.message.Message.{Message}
@@ -48,6 +49,15 @@ blob_piece None = 0
 abbrev pub tpm_behind : Option Link → Option TpmParts
 tpm_behind (Some l) = l.desk.tpm
 tpm_behind None = None
+
+-- the command that an emulator holds, and the bytes of the channel of commands
+pub record CommandState : Type 0 where
+  pub held : Option Held
+  pub lane : Lane
+
+abbrev pub commands_at : Option Link → Option CommandState
+commands_at (Some l) = Some (record { held = l.desk.held; lane = l.commands })
+commands_at None = None
 
 abbrev pub sizes_at : {P : Type 0} → HostModel P → Option Link → PieceSizes
 sizes_at h link = record { of_record = h.piece; of_blob = blob_piece link }

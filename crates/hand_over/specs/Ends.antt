@@ -1,9 +1,9 @@
 -- How a move ends. (Own definitions.)
-use Rattle.std.specs.Prelude.{◌≡◌, ◌+◌, ℕ, Bool, true, false, [], Option, Some, Ok}
+use Rattle.std.specs.Prelude.{◌≡◌, ◌+◌, ℕ, Bool, true, false, [], Option, Some, Ok, IsSomeAnd}
 use Rattle.tpm_core.specs.declared.parts.TpmParts.{TpmParts}
 use Rattle.crb_port.specs.Known.{Known}
 use Rattle.crb_machine.specs.Values.{held_values}
-use Rattle.crb_machine.specs.Over.{Stops, GoesOn}
+use Rattle.crb_machine.specs.Over.{IsSound, Stops, GoesOn}
 use Rattle.crb_machine.specs.Model.{DeviceModel}
 use Rattle.ctrl_client.specs.Link.{Link}
 use Rattle.ctrl_client.specs.Exchange.{IsQuiet}
@@ -11,6 +11,7 @@ use Rattle.move_core.specs.declared.stage.MoveStage.{MoveStage}
 use Rattle.move_core.specs.declared.stage.MoveStage.TheVariants.{Empty, Running, Released}
 use Rattle.move_core.specs.Model.{HostModel}
 use Rattle.move_core.specs.Requests.{WiresView}
+use Rattle.hand_over.specs.Bridge.{HasStarted}
 use Rattle.hand_over.specs.Fine.{IsUndisturbed}
 use Rattle.hand_over.specs.Counts.{tpm_behind, pieces_from, arrives, loses}
 
@@ -18,8 +19,8 @@ use Rattle.hand_over.specs.Counts.{tpm_behind, pieces_from, arrives, loses}
 abbrev pub host_as : {P : Type 0} → MoveStage → ℕ → DeviceModel P → HostModel P → HostModel P
 host_as stage top device h = record h { stage = stage; top = top; record_bytes = []; device = device }
 
--- The guest runs at the target: its device goes on with the values of the source's stopped device, and the TPM there is the source's. The source has
--- let go of it.
+-- The guest runs at the target: its device goes on with the values of the source's stopped device, and the TPM there is the source's, just switched
+-- on. The source has let go of it.
 pub record Arrives {P Plan : Type 0} (known : P → Known) (source : HostModel P) (stopped : DeviceModel P) (tpm : Option TpmParts) (target : HostModel P) (epoch : ℕ)
     (new_source new_target : HostModel P) (v : WiresView Plan) : Type 0 where
   pub source_is : new_source ≡ host_as (Released epoch) epoch stopped source
@@ -27,8 +28,11 @@ pub record Arrives {P Plan : Type 0} (known : P → Known) (source : HostModel P
   pub filled : DeviceModel P
   pub values : held_values filled ≡ held_values stopped
   pub port : filled.port ≡ target.device.port
+  pub held : filled.held ≡ true
+  pub sound : IsSound known filled
   pub goes_on : GoesOn known filled new_target.device
   pub tpm_is : tpm_behind v.link ≡ tpm
+  pub started : IsSomeAnd v.link (λ l. HasStarted l.desk)
 
 -- The guest runs on at the source: its stopped device goes on.
 pub record RunsOn {P : Type 0} (known : P → Known) (source : HostModel P) (stopped : DeviceModel P) (epoch : ℕ) (new : HostModel P) : Type 0 where
@@ -57,6 +61,8 @@ MoveEnds false first known source stopped tpm target epoch new_source new_target
 -- What a move of which this message is lost makes of two hosts. The source's device was stopped for it, and its record and the blobs of its TPM make the pieces.
 pub record HasMoved {P Plan : Type 0} (known : P → Known) (source : HostModel P) (w : WiresView Plan) (target : HostModel P) (lost : Option ℕ)
     (new_source new_target : HostModel P) (v : WiresView Plan) : Type 0 where
+  pub sound : IsSound known source.device
+  pub runs : source.device.held ≡ false
   pub stopped : DeviceModel P
   pub stops : Stops known source.device (Ok tt) stopped
   pub ends : MoveEnds (arrives (pieces_from (record source { device = stopped }) w.link) lost) (loses lost 1) known source stopped (tpm_behind w.link) target (source.top + 1)
@@ -64,6 +70,8 @@ pub record HasMoved {P Plan : Type 0} (known : P → Known) (source : HostModel 
 
 -- what a move makes of two hosts for which the source has no memory: it gave up
 pub record IsGivenUp {P : Type 0} (known : P → Known) (source target new_source new_target : HostModel P) : Type 0 where
+  pub sound : IsSound known source.device
+  pub runs : source.device.held ≡ false
   pub stopped : DeviceModel P
   pub stops : Stops known source.device (Ok tt) stopped
   pub taken_back : IsTakenBack known source stopped target (source.top + 1) new_source new_target

@@ -1,9 +1,9 @@
 -- A move from hand to hand that nothing disturbs: what stands before each message to the target. (Own definitions.)
-use Rattle.std.specs.Prelude.{◌≡◌, ◌≤◌, ◌<◌, ℕ, [], length, Option, Some, None}
+use Rattle.std.specs.Prelude.{◌≡◌, ◌≤◌, ◌<◌, ℕ, true, [], length, Option, Some, None, IsSomeAnd}
 use Rattle.tpm_core.specs.declared.parts.TpmParts.{TpmParts}
 use Rattle.tpm_core.specs.Steps.{IsFit}
 use Rattle.crb_machine.specs.Values.{DeviceValues, AreFit, held_values}
-use Rattle.crb_machine.specs.Over.{GoesOn}
+use Rattle.crb_machine.specs.Over.{IsSound, GoesOn}
 use Rattle.ctrl_client.specs.Link.{Link}
 use Rattle.move_codec.specs.declared.names.HostName.{HostName}
 use Rattle.move_codec.specs.declared.names.Part.{Part}
@@ -16,7 +16,7 @@ use Rattle.move_core.specs.Hosts.{IsConsistentHost}
 use Rattle.move_core.specs.Requests.{WiresView}
 use Rattle.hand_over.specs.Parts.{Parts, PieceSizes, size_for, part_of, lengths, slice, filled}
 use Rattle.hand_over.specs.Host.{HostState, other, message_from}
-use Rattle.hand_over.specs.Bridge.{StandsFor}
+use Rattle.hand_over.specs.Bridge.{HasStarted, StandsFor}
 use Rattle.hand_over.specs.Fine.{IsUndisturbed, offered_by}
 use Rattle.hand_over.specs.Counts.{blob_piece, tpm_behind}
 use Rattle.hand_over.specs.Ends.{IsCalm}
@@ -92,9 +92,12 @@ pub record IsHandedOver {P Plan : Type 0} (known : P → Known) (source : HostMo
   pub released : source.stage ≡ stage.Released epoch
   pub prepared : target.stage ≡ stage.Prepared epoch
   pub values : held_values target.device ≡ held_values source.device
+  pub held : target.device.held ≡ true
+  pub sound : IsSound known target.device
   pub goes_on : GoesOn known target.device new.device
   pub calm : IsCalm (blob_piece v.link) v
   pub tpm : tpm_behind v.link ≡ tpm_behind w.link
+  pub started : IsSomeAnd v.link (λ l. HasStarted l.desk)
 
 -- the target asks for more, or the move is done
 abbrev pub TargetGoes : {P Plan : Type 0} → (P → Known) → HostModel P → WiresView Plan → HostModel P → HostModel P → WiresView Plan → Option Message → Type 0

@@ -32,11 +32,10 @@ pub record OfferComes (e : ℕ) (parts : Parts) (n : HostName) (x y : HostState)
 abbrev pub to_begin : Message → PieceSizes → ℕ → Parts → HostName → HostName → HostState → HostState → Type 0
 to_begin m size e parts n k x y = OfferComes e parts n x y m
 
--- a device that a stop brings home, and that isn't lost then
+-- a device that a stop brings home, and that isn't lost then: by what stands in its port, where that is told
 pub record CanStop {P : Type 0} (known : P → Known) (d : DeviceModel P) : Type 0 where
-  pub working : is_lost d.regs.phase ≡ false
   pub known_state : IfSome (state_of known d) (λ s. (s.slot ≢ Claimed) × (is_lost (collected s).regs.phase ≡ false))
-  pub unknown_state : state_of known d ≡ None → (known d.port).is_free ≡ true
+  pub unknown_state : state_of known d ≡ None → ((known d.port).is_free ≡ true) × (is_lost d.regs.phase ≡ false)
 
 -- The premises of a move. The source runs, nothing of its device's is claimed, and it isn't lost; there is a TPM behind its wires; the target neither runs
 -- nor offers, and has seen no later epoch. No call on the wires is to fail, nothing waits on their control channels, and these are open.

@@ -1,7 +1,7 @@
 //! One turn of a move: the source takes what the target needs, and the target takes the answer.
 ghost use Rattle.std.specs.Prelude.{◌≡◌, ◌+◌, ◌*◌, ◌<◌, ◌≤◌, suc, true, false, IfOk, OnErr, IfSome, Ok};
 ghost use Rattle.move_core.specs.Requests.{wires_view};
-ghost use Rattle.hand_over.specs.Counts.{blob_piece, tpm_behind, pieces_from, messages_left, left_with, loses, arrives};
+ghost use Rattle.hand_over.specs.Counts.{blob_piece, tpm_behind, commands_at, pieces_from, messages_left, left_with, loses, arrives};
 ghost use Rattle.hand_over.specs.Ends.{IsTakenBack, Ends, IsCalm};
 ghost use Rattle.hand_over.specs.Moving.{AreMoving, to_source, to_target, TargetGoes};
 ghost use Rattle.hand_over.specs.Carrying.{TurnGoes};
@@ -42,6 +42,7 @@ pub fn ask_target<P: Port, W: Wires>(
         let v = wires_view W.fails W.later (W.link to.new) (W.plan to.new) (W.faults to.new) (W.traffic to.new) in
         TargetGoes P.known source.now w target.old target.new v result }
     ensures pieces { blob_piece (W.link to.new) ≡ blob_piece (W.link to.old) }
+    ensures commands { commands_at (W.link to.new) ≡ commands_at (W.link to.old) }
     ensures count { messages_left source.now (W.link from.now) m.now ≡ left_with source.now (W.link from.now) result }
 {
     fitting_deliveries_are_sure::<P, W>();
@@ -116,6 +117,7 @@ pub fn turn<P: Port, W: Wires>(
     ensures link { W.link from.new ≡ W.link from.old }
     ensures calm { IsCalm (blob_piece (W.link from.old)) (wires_view W.fails W.later (W.link from.new) (W.plan from.new) (W.faults from.new) (W.traffic from.new)) }
     ensures target_calm { IsCalm (blob_piece (W.link to.old)) (wires_view W.fails W.later (W.link to.new) (W.plan to.new) (W.faults to.new) (W.traffic to.new)) }
+    ensures commands { commands_at (W.link to.new) ≡ commands_at (W.link to.old) }
 {
     blobs_are_told_apart();
     let next = match ask_source(alloc, source, from, target, to, m) {

@@ -4,7 +4,7 @@ ghost use Rattle.move_codec.specs.declared.message.Message.{Message};
 ghost use Rattle.move_core.specs.Hosts.{IsConsistentHost};
 ghost use Rattle.move_core.specs.Sides.{other, side_of};
 ghost use Rattle.move_core.specs.Requests.{wires_view};
-ghost use Rattle.hand_over.specs.Counts.{blob_piece, tpm_behind};
+ghost use Rattle.hand_over.specs.Counts.{blob_piece, tpm_behind, commands_at};
 ghost use Rattle.hand_over.specs.Ends.{IsTakenBack, Ends, IsCalm};
 ghost use Rattle.hand_over.specs.Moving.{AreMoving, to_target};
 ghost use Rattle.hand_over.specs.Losses.{Resumed, aborted, has_let_go};
@@ -85,6 +85,7 @@ pub fn make_good<P: Port, W: Wires>(
     ensures link { W.link from.new ≡ W.link from.old }
     ensures calm { IsCalm (blob_piece (W.link from.old)) (wires_view W.fails W.later (W.link from.new) (W.plan from.new) (W.faults from.new) (W.traffic from.new)) }
     ensures target_calm { IsCalm (blob_piece (W.link to.old)) (wires_view W.fails W.later (W.link to.new) (W.plan to.new) (W.faults to.new) (W.traffic to.new)) }
+    ensures commands { commands_at (W.link to.new) ≡ commands_at (W.link to.old) }
 {
     match source.side() {
         Side::Offering(_) => call_off(alloc, source, target, to),

@@ -4,7 +4,7 @@ ghost use Rattle.crb_machine.specs.Over.{Stops};
 ghost use Rattle.move_core.specs.Hosts.{IsConsistentHost};
 ghost use Rattle.move_core.specs.Requests.{wires_view};
 ghost use Rattle.move_core.specs.Sides.{is_active};
-ghost use Rattle.hand_over.specs.Counts.{blob_piece, pieces_from, messages_left};
+ghost use Rattle.hand_over.specs.Counts.{blob_piece, commands_at, pieces_from, messages_left};
 ghost use Rattle.hand_over.specs.Moving.{AreMoving, to_source};
 ghost use Rattle.hand_over.specs.Start.{CanMove, to_begin, emptied};
 
@@ -63,6 +63,7 @@ pub fn take_offer<P: Port, W: Wires>(
         AreMoving P.known (to_source result) source.now w target.new v }
     ensures target { target.new ≡ record target.old { top = source.now.top; stage = target.new.stage; record_bytes = target.new.record_bytes } }
     ensures pieces { blob_piece (W.link to.new) ≡ blob_piece (W.link to.old) }
+    ensures commands { commands_at (W.link to.new) ≡ commands_at (W.link to.old) }
     ensures count { suc (messages_left source.now (W.link from.now) result) ≡ messages_left source.now (W.link from.now) m.now }
 {
     fitting_deliveries_are_sure::<P, W>();

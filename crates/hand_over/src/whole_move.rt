@@ -3,7 +3,7 @@ ghost use Rattle.std.specs.Prelude.{◌≡◌, ◌+◌, ◌*◌, ◌≤◌, ◌-
 ghost use Rattle.crb_port.specs.Calls.{KeepsWorker};
 ghost use Rattle.crb_machine.specs.Over.{Stops};
 ghost use Rattle.move_core.specs.Requests.{wires_view};
-ghost use Rattle.hand_over.specs.Counts.{blob_piece, tpm_behind, pieces_from, messages_left, arrives};
+ghost use Rattle.hand_over.specs.Counts.{blob_piece, tpm_behind, commands_at, pieces_from, messages_left, arrives};
 ghost use Rattle.hand_over.specs.Ends.{IsTakenBack, Ends, IsCalm, HasMoved, IsGivenUp};
 ghost use Rattle.hand_over.specs.Moving.{AreMoving, to_source};
 ghost use Rattle.hand_over.specs.Start.{CanMove};
@@ -39,6 +39,7 @@ fn carry_on<P: Port, W: Wires>(
     ensures link { W.link from.new ≡ W.link from.old }
     ensures calm { IsCalm (blob_piece (W.link from.old)) (wires_view W.fails W.later (W.link from.new) (W.plan from.new) (W.faults from.new) (W.traffic from.new)) }
     ensures target_calm { IsCalm (blob_piece (W.link to.old)) (wires_view W.fails W.later (W.link to.new) (W.plan to.new) (W.faults to.new) (W.traffic to.new)) }
+    ensures commands { commands_at (W.link to.new) ≡ commands_at (W.link to.old) }
 {
     let mut m = need;
     let mut number: u32 = 2;
@@ -80,6 +81,7 @@ pub fn move_guest<P: Port, W: Wires>(
     ensures source_link { W.link source_wires.new ≡ W.link source_wires.old }
     ensures source_calm { IsCalm (blob_piece (W.link source_wires.old)) (wires_view W.fails W.later (W.link source_wires.new) (W.plan source_wires.new) (W.faults source_wires.new) (W.traffic source_wires.new)) }
     ensures target_calm { IsCalm (blob_piece (W.link target_wires.old)) (wires_view W.fails W.later (W.link target_wires.new) (W.plan target_wires.new) (W.faults target_wires.new) (W.traffic target_wires.new)) }
+    ensures target_commands { commands_at (W.link target_wires.new) ≡ commands_at (W.link target_wires.old) }
 {
     let _sides = (source.side(), target.side());
     let offer = ask_offer(source, source_wires, target, target_wires);

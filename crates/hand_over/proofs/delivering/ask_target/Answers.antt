@@ -1,4 +1,4 @@
-use Rattle.hand_over.proofs.Hands.{target_turn, target_pieces, target_goes_on, target_ends}
+use Rattle.hand_over.proofs.Hands.{target_turn, target_pieces, target_commands, target_goes_on, target_ends}
 use Rattle.hand_over.proofs.delivering.ask_target.Goals as goal
 
 pub returns-in-Sent : goal.returns-in-Sent
@@ -10,6 +10,7 @@ returns-in-Sent g c =
     record {
       goes = goes.0;
       pieces = target_pieces known c.fitting_deliveries_are_sure.ensures c.args.source.now _ c.args.target.now c.deliver.new.self _ _ c.args.m.now c.in-Ok.answer c.requires.moving c.in-Ok.ensures.row;
+      commands = target_commands known c.fitting_deliveries_are_sure.ensures c.args.source.now _ c.args.target.now c.deliver.new.self _ _ c.args.m.now c.in-Ok.answer c.requires.moving c.in-Ok.ensures.row;
       count = goes.1;
     }
 
@@ -24,5 +25,6 @@ returns g c =
     record {
       goes = ends.0;
       pieces = target_pieces known c.fitting_deliveries_are_sure.ensures c.args.source.now _ c.args.target.now c.deliver.new.self _ _ c.args.m.now c.in-Ok.answer c.requires.moving c.in-Ok.ensures.row;
+      commands = target_commands known c.fitting_deliveries_are_sure.ensures c.args.source.now _ c.args.target.now c.deliver.new.self _ _ c.args.m.now c.in-Ok.answer c.requires.moving c.in-Ok.ensures.row;
       count = ends.1;
     }

@@ -14,4 +14,5 @@ returns-in_default g c =
       link = again.link;
       calm = calm_at _ _ _ (ap blob_piece again.link) (calm_target known c.commit_again-commit.new.source _ c.args.target.now _ c.commit_again-commit.result again.moving).0;
       target_calm = calm_at _ _ _ c.ask_target-none.ensures.pieces good.1;
+      commands = c.ask_target-none.ensures.commands;
     }

@@ -1,7 +1,7 @@
 use Rattle.std.proofs.Common.{◌≡◌, ◌+◌, ◌*◌, ◌<◌, ◌≤◌, ◌-◌}
 use Rattle.std.specs.Prelude.{IfSome}
 use Rattle.move_core.specs.Requests.{wires_view}
-use Rattle.hand_over.specs.Counts.{blob_piece, pieces_from, messages_left}
+use Rattle.hand_over.specs.Counts.{blob_piece, commands_at, pieces_from, messages_left}
 use Rattle.hand_over.specs.Moving.{AreMoving, IsSameTarget, to_source}
 use Rattle.hand_over.proofs.whole_move.carry_on.Given as goal
 
@@ -14,6 +14,7 @@ invariant-loop-lost g l = record {
   link : g.W.Wires.link l.from ≡ g.W.Wires.link l.fn.from;
   target_is : IsSameTarget l.fn.target l.target;
   pieces : blob_piece (g.W.Wires.link l.to) ≡ blob_piece (g.W.Wires.link l.fn.to);
+  commands : commands_at (g.W.Wires.link l.to) ≡ commands_at (g.W.Wires.link l.fn.to);
   count : l.number + messages_left l.source (g.W.Wires.link l.from) l.m ≡ 2 * pieces_from l.source (g.W.Wires.link l.from) + 3;
   ahead : IfSome l.lost (λ k. l.number ≤ k);
   small : l.number < 100000;
