@@ -19,7 +19,7 @@ use Rattle.vt_seat.specs.Moves.{CanGo, IsAtRest, GoesOnFrom}
 use Rattle.vt_seat.proofs.Guests.{collected-collected}
 use Rattle.vt_seat.proofs.Jobs.{Rests, to_rest, from_rest}
 use Rattle.vt_seat.proofs.Resets.{IsAtRest as Unclaimed, at_rest, busy_where, not_lost}
-use Rattle.vt_seat.proofs.Savings.{no_due}
+use Rattle.vt_seat.proofs.Savings.{values-by, unclaimed-by, no_due}
 
 -- no job is claimed
 open_slot : (b : Base) (s : OneHost) (w : WorldState) → CanGo b s w → (collected (plain_device w.device)).slot ≢ Claimed
@@ -40,6 +40,10 @@ pub at_rest_here : (b : Base) (s : OneHost) (w : WorldState) → CanGo b s w →
 at_rest_here b s w can = record {
   free = (unclaimed_here b s w can).free;
   unclaimed = open_slot b s w can;
+  told = unclaimed-by b s.history (collected (plain_device w.device)).slot w.progress (collected (plain_device w.device)).regs (collected (plain_device w.device)).number
+      can.follows.stands.job (open_slot b s w can) can.follows.stands.device.regs can.follows.stands.device.number;
+  values = values-by b s.history (collected (plain_device w.device)).slot w.progress (collected (plain_device w.device)).regs (collected (plain_device w.device)).number
+      can.follows.stands.job (open_slot b s w can) can.follows.stands.device.regs can.follows.stands.device.number (can.follows.stands.device.bytes (not_lost (phase_of b s.history) can.working));
   working = λ lost. can.working (sym (ap (λ (r : Regs). r.phase) can.follows.stands.device.regs) ∙ lost);
   emulator = record { quiet = can.follows.stands.quiet; desk = (rests_here b s w can).desk; lane = (rests_here b s w can).lane };
   fit = fit-past b.tpm (executed b s.history) can.follows.fit;

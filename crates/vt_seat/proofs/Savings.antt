@@ -55,7 +55,7 @@ open_slot : (d : DeviceState) → reset_reply d ≡ Ok tt → (collected d).slot
 open_slot d done claimed = free_where d.slot d.number done (raw_claimed d claimed).slot
 
 -- the values of a device whose job isn't claimed are those of the history
-values-by : (b : Base) (p : History) (slot : Slot) (progress : Progress) (regs : Regs) (number : ℕ) → Placed b p slot progress → slot ≢ ClaimedSlot
+pub values-by : (b : Base) (p : History) (slot : Slot) (progress : Progress) (regs : Regs) (number : ℕ) → Placed b p slot progress → slot ≢ ClaimedSlot
     → regs ≡ registers_of b p → number ≡ number_of b p → HoldsBuffer b p slot → values_at (record { regs = regs; number = number; slot = slot }) ≡ device_after b p
 values-by b p slot progress regs number (AtHome bytes still) at_home regs_is number_is holds = rw (regs_is, number_is, still, content-is b p bytes holds) refl
 values-by b p slot progress regs number (InQueue job last) at_home regs_is number_is holds = rw (regs_is, number_is, last.held, last.at.executing, content-is b p job.buf holds) refl
@@ -64,7 +64,7 @@ values-by b p slot progress regs number (OnWay job last) at_home regs_is number_
 values-by b p slot progress regs number (Ran job head is) at_home regs_is number_is holds = absurd (at_home refl)
 
 -- and they tell all of it
-unclaimed-by : (b : Base) (p : History) (slot : Slot) (progress : Progress) (regs : Regs) (number : ℕ) → Placed b p slot progress → slot ≢ ClaimedSlot
+pub unclaimed-by : (b : Base) (p : History) (slot : Slot) (progress : Progress) (regs : Regs) (number : ℕ) → Placed b p slot progress → slot ≢ ClaimedSlot
     → regs ≡ registers_of b p → number ≡ number_of b p → IsUnclaimed (record { regs = regs; number = number; slot = slot })
 unclaimed-by b p slot progress regs number (AtHome bytes still) at_home regs_is number_is = record { reach = tt; phase = ap (λ (r : Regs). is_executing r.phase) regs_is ∙ still }
 unclaimed-by b p slot progress regs number (InQueue job last) at_home regs_is number_is = record { reach = last.number ∙ sym number_is; phase = ap (λ (r : Regs). is_executing r.phase) regs_is ∙ ap is_executing last.at.executing }

@@ -4,12 +4,14 @@ use Rattle.crb_regs.specs.declared.phase.Phase.TheVariants.{Lost}
 use Rattle.crb_machine.specs.Over.{plain_device}
 use Rattle.crb_machine.specs.State.Slot.{Claimed}
 use Rattle.crb_machine.specs.Steps.{collected}
+use Rattle.crb_machine.specs.Values.{IsUnclaimed, values_at}
 use Rattle.crb_worker.specs.declared.progress.Progress.TheVariants.{Free}
 use Rattle.tpm_core.specs.declared.parts.TpmParts.{TpmParts}
 use Rattle.tpm_core.specs.Steps.{IsFit}
 use Rattle.ctrl_client.specs.Exchange.{IsQuiet}
 use Rattle.ctrl_client.specs.Link.{Link, empty_lane}
 use Rattle.crb_history.specs.Base.{Base}
+use Rattle.crb_history.specs.Continued.{device_after}
 use Rattle.crb_history.specs.Device.{phase_of}
 use Rattle.crb_history.specs.OneHost.{OneHost}
 use Rattle.crb_history.specs.Replies.{is_under_way}
@@ -28,10 +30,13 @@ pub record CanGo (b : Base) (s : OneHost) (w : WorldState) : Type 0 where
   pub working : phase_of b s.history ≢ Lost
   pub unclaimed : is_under_way b s.history ≡ false
 
--- such a guest's worker has nothing in hand, and its emulator waits, with the TPM that the history leaves
+-- Such a guest's worker has nothing in hand. Its device's values are those at the end of the history, and tell all of it, and its emulator waits, with
+-- the TPM that the history leaves.
 pub record IsAtRest (b : Base) (s : OneHost) (w : WorldState) : Type 0 where
   pub free : w.progress ≡ Free
   pub unclaimed : (collected (plain_device w.device)).slot ≢ Claimed
+  pub told : IsUnclaimed (collected (plain_device w.device))
+  pub values : values_at (collected (plain_device w.device)) ≡ device_after b s.history
   pub working : (collected (plain_device w.device)).regs.phase ≢ Lost
   pub emulator : EmulatorRests (tpm_at b s.history) w.link
   pub fit : IsFit (tpm_at b s.history)

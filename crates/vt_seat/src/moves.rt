@@ -1,5 +1,6 @@
 //! A guest moves from one seat to another.
-ghost use Rattle.std.specs.Prelude.{◌≡◌, ◌≤◌, ◌+◌, OnOk, OnErr, IfSome};
+ghost use Rattle.std.specs.Prelude.{◌≡◌, ◌≤◌, ◌+◌, Some, OnOk, OnErr, IfSome};
+ghost use Rattle.hand_over.specs.Counts.{commands_at};
 ghost use Rattle.hand_over.specs.Ends.{HasMoved, IsGivenUp, IsCalm};
 ghost use Rattle.hand_over.specs.Start.{CanMove};
 ghost use Rattle.crb_worker.specs.declared.progress.Progress.TheVariants.{Free};
@@ -30,6 +31,7 @@ impl<P: Port> Seat<P> {
         ensures link { self.new.link ≡ self.old.link }
         ensures calm { IsCalm self.old.link.desk.piece (view_of self.new) }
         ensures target_calm { IsCalm target.old.link.desk.piece (view_of target.new) }
+        ensures target_commands { commands_at (Some target.new.link) ≡ commands_at (Some target.old.link) }
         ensures names { (self.new.host.name ≡ self.old.host.name) × (target.new.host.name ≡ target.old.host.name) }
         ensures free { self.new.progress ≡ Free }
         ensures target_free { target.new.progress ≡ Free }
