@@ -1,7 +1,8 @@
 -- A move between two hosts. (Own definitions.)
-use Rattle.std.specs.Prelude.{◌≡◌, ◌+◌, ℕ, Bool, true, false, Option}
+use Rattle.std.specs.Prelude.{◌≡◌, ◌+◌, ℕ, Bool, true, false, Option, Some}
 use Rattle.crb_port.specs.Known.{Known}
 use Rattle.crb_worker.specs.declared.progress.Progress.TheVariants.{Free}
+use Rattle.hand_over.specs.Counts.{commands_at, pieces_from}
 use Rattle.hand_over.specs.Ends.{HasMoved, IsGivenUp, IsCalm}
 use Rattle.hand_over.specs.Start.{CanMove}
 use Rattle.vt_seat.specs.Seats.{SeatState, view_of}
@@ -13,12 +14,14 @@ pub record CanMoveTo {P : Type 0} (known : P → Known) (source target : SeatSta
   pub free : source.progress ≡ Free
   pub target_free : target.progress ≡ Free
 
--- what every move leaves: the source's link as it was, and wires and workers that can serve a next move
+-- what every move leaves: the source's link as it was, the command that the target's emulator holds, if any, and wires and workers that can serve a next
+-- move
 pub record LeavesSeats {P : Type 0} (source target new_source new_target : SeatState P) : Type 0 where
   pub top : new_source.host.top ≡ source.host.top + 1
   pub link : new_source.link ≡ source.link
   pub calm : IsCalm source.link.desk.piece (view_of new_source)
   pub target_calm : IsCalm target.link.desk.piece (view_of new_target)
+  pub commands : commands_at (Some new_target.link) ≡ commands_at (Some target.link)
   pub free : new_source.progress ≡ Free
   pub target_free : new_target.progress ≡ Free
 
@@ -57,3 +60,11 @@ PairMoves known lost old new = MovesFrom (runs_at_a old) known lost old new
 -- it runs on where it was
 abbrev pub PairGivesUp : {P : Type 0} → (P → Known) → PairState P → PairState P → Type 0
 PairGivesUp known old new = GivesUpFrom (runs_at_a old) known old new
+
+-- the pieces of the move that was made: the record of the device that was stopped and the blobs of its TPM, in pieces of the source's sizes
+abbrev pub pieces_moved_from : {P : Type 0} (here : Bool) (known : P → Known) (lost : Option ℕ) (old new : PairState P) → MovesFrom here known lost old new → ℕ
+pieces_moved_from true known lost old new m = pieces_from (record old.a.host { device = m.moved.stopped }) (Some old.a.link)
+pieces_moved_from false known lost old new m = pieces_from (record old.b.host { device = m.moved.stopped }) (Some old.b.link)
+
+abbrev pub pieces_moved : {P : Type 0} (known : P → Known) (lost : Option ℕ) (old new : PairState P) → PairMoves known lost old new → ℕ
+pieces_moved known lost old new m = pieces_moved_from (runs_at_a old) known lost old new m

@@ -20,7 +20,8 @@
 //! [`World::load`] makes a world of such bytes that goes on where the saved one was, or says why they are none. The
 //! layout is that of [`saved_stream`].
 //!
-//! A [`Pair`] is two hosts, of which one runs a guest, each over wires of its own.
+//! A [`Pair`] is two hosts, of which one runs a guest, each over wires of its own. [`Pair::move_all`] moves the guest to the other
+//! host; the laws in [`laws`] say that it goes on there where its history leads.
 //!
 //! World and pair are each a [`crb_driver::Bus`] too, so that a driver can do whole commands on them; the worker takes a
 //! step after each read of START then.
@@ -30,6 +31,7 @@
 #![tactic(auto)]
 
 mod bus;
+pub mod laws;
 mod pair;
 mod saving;
 mod world;

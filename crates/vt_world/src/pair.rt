@@ -5,6 +5,7 @@ ghost use Rattle.vt_seat.specs.Follows.{Follows};
 ghost use Rattle.vt_seat.specs.Seats.{wires_of, world_of, StartsAs, IsEmptySeat};
 ghost use Rattle.vt_seat.specs.Wires.{emulator_of};
 ghost use Rattle.vt_world.specs.Moving.{PairCanMove, PairMoves, PairGivesUp};
+ghost use Rattle.vt_world.specs.Placement.{IsMovable, first_placement};
 ghost use Rattle.vt_world.specs.Pairs.{new_pair, seat_of, running_host, IsPairReady};
 
 use crb_port::{PlainPort, Port};
@@ -49,6 +50,7 @@ impl Pair<PlainPort> {
         ensures a { IfOk result (λ w. StartsAs HostName.A piece w.a) }
         ensures b { IfOk result (λ w. IsEmptySeat HostName.B piece w.b) }
         ensures ready { IfOk result IsPairReady }
+        ensures movable { IfOk result (IsMovable piece first_placement) }
     {
         let a = Seat::fresh(alloc, HostName::A, seed, piece)?;
         let b = Seat::empty(alloc, HostName::B, piece)?;
