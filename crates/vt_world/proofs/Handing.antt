@@ -1,6 +1,6 @@
 -- A guest goes on at the seat where a move leaves it, over ports that show what is in them.
 use Rattle.std.proofs.Common.{◌≡◌, ◌≢◌, ℕ, zero, suc, ◌+◌, ◌≤◌, ◌<◌, Bool, true, false, Option, Some, None, Ok, refl, sym, ap, subst, ◌∙◌, arith}
-use Rattle.std.specs.Prelude.{IfSome, ◌-◌, ◌^◌, if◌then◌else◌}
+use Rattle.std.specs.Prelude.{IfSome, ◌-◌, ◌^◌}
 use Rattle.crb_regs.specs.Registers.{is_lost}
 use Rattle.crb_regs.specs.declared.phase.Phase.{Phase}
 use Rattle.crb_regs.specs.declared.phase.Phase.TheVariants.{Idle, Ready, Reception, Execution, Completion, Lost}

@@ -1,6 +1,6 @@
 -- Where the guest of two hosts is after a move, over any port.
 use Rattle.std.proofs.Common.{◌≡◌, ℕ, ◌+◌, ◌*◌, Bool, true, false, not, Option, Some, None, refl, ap, ◌∙◌, arith}
-use Rattle.std.specs.Prelude.{if◌then◌else◌, ◌==◌}
+use Rattle.std.specs.Prelude.{if◌then◌else◌}
 use Rattle.std.proofs.lemmas.Bool.{ltb-true, ne_eqb}
 use Rattle.crb_port.specs.Known.{Known}
 use Rattle.crb_port.specs.declared.job.Standing.{Standing}

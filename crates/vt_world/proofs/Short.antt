@@ -1,6 +1,6 @@
 -- The record of a guest that prepares no command is its header alone.
-use Rattle.std.proofs.Common.{◌≡◌, ◌≢◌, ℕ, zero, suc, ◌+◌, Bool, true, false, List, [], ◌∷◌, ◌++◌, length, Option, Some, refl, sym, ap, subst, ◌∙◌, arith}
-use Rattle.std.specs.Prelude.{if◌then◌else◌, unwrap_or, is_some, slice_index}
+use Rattle.std.proofs.Common.{◌≡◌, ℕ, zero, suc, ◌+◌, Bool, true, false, List, [], ◌∷◌, length, Option, Some, refl, sym, ap, subst, ◌∙◌, arith}
+use Rattle.std.specs.Prelude.{if◌then◌else◌, slice_index}
 use Rattle.vt_base.specs.Buffer.{zeros}
 use Rattle.vt_base.proofs.Zeros.{get_or-zeros}
 use Rattle.crb_regs.specs.Access.{Access}
@@ -9,14 +9,14 @@ use Rattle.crb_regs.specs.declared.phase.Phase.TheVariants.{Idle, Ready, Recepti
 use Rattle.crb_regs.specs.declared.effect.Effect.{Effect}
 use Rattle.crb_regs.specs.declared.effect.Effect.TheVariants.{Buffer, CmdReady, GoIdle, Start, Cancel, Request, Relinquish, Nothing}
 use Rattle.crb_port.specs.declared.job.Outcome.TheVariants.{Done, Cancelled, Lost as EndedLost}
-use Rattle.crb_machine.specs.Phases.{is_accepted, phase_after, next_phase}
+use Rattle.crb_machine.specs.Phases.{is_accepted, phase_after}
 use Rattle.crb_machine.specs.Values.{DeviceValues}
 use Rattle.device_record.specs.Records.{trimmed, record_text}
 use Rattle.crb_history.specs.Base.{Base}
 use Rattle.crb_history.specs.Bytes.{bytes_at}
 use Rattle.crb_history.specs.Continued.{content_after, device_after}
-use Rattle.crb_history.specs.Device.{phase_of, is_granted, phase_at_end, buffer, accepts, byte_after, effect_of}
-use Rattle.crb_history.specs.Event.{Event, History}
+use Rattle.crb_history.specs.Device.{phase_of, is_granted, phase_at_end, buffer, byte_after, effect_of}
+use Rattle.crb_history.specs.Event.{History}
 use Rattle.crb_history.specs.Event.Event.{Read, Write, Claim, Sent, Exec, Finish, Ask, Reset, ResetLost}
 use Rattle.crb_history.specs.Legal.{Legal}
 use Rattle.crb_history.specs.OneHost.{OneHost}
