@@ -1,5 +1,6 @@
 //! One turn of a move: the source takes what the target needs, and the target takes the answer.
 ghost use Rattle.std.specs.Prelude.{◌≡◌, ◌+◌, ◌*◌, ◌<◌, ◌≤◌, suc, true, false, IfOk, OnErr, IfSome, Ok};
+ghost use Rattle.crb_port.specs.Calls.{KeepsWorker};
 ghost use Rattle.move_core.specs.Requests.{wires_view};
 ghost use Rattle.hand_over.specs.Counts.{blob_piece, tpm_behind, commands_at, pieces_from, messages_left, left_with, loses, arrives};
 ghost use Rattle.hand_over.specs.Ends.{IsTakenBack, Ends, IsCalm};
@@ -44,6 +45,8 @@ pub fn ask_target<P: Port, W: Wires>(
     ensures pieces { blob_piece (W.link to.new) ≡ blob_piece (W.link to.old) }
     ensures commands { commands_at (W.link to.new) ≡ commands_at (W.link to.old) }
     ensures count { messages_left source.now (W.link from.now) m.now ≡ left_with source.now (W.link from.now) result }
+    ensures target_worker { KeepsWorker (P.known target.old.device.port) (P.known target.new.device.port) }
+    ensures target_rest { P.rest target.new.device.port ≡ P.rest target.old.device.port }
 {
     fitting_deliveries_are_sure::<P, W>();
     blobs_are_told_apart();
@@ -79,6 +82,8 @@ pub fn ask_source<P: Port, W: Wires>(
     ensures count { IfOk result (λ next. suc (messages_left source.new (W.link from.new) next) ≡ messages_left source.old (W.link from.old) m.now) }
     ensures same { OnErr result (source.new ≡ source.old) }
     ensures untouched { OnErr result (from.new ≡ from.old) }
+    ensures source_worker { KeepsWorker (P.known source.old.device.port) (P.known source.new.device.port) }
+    ensures source_rest { P.rest source.new.device.port ≡ P.rest source.old.device.port }
 {
     fitting_deliveries_are_sure::<P, W>();
     let answer = match source.deliver(alloc, m, from) {
@@ -118,6 +123,10 @@ pub fn turn<P: Port, W: Wires>(
     ensures calm { IsCalm (blob_piece (W.link from.old)) (wires_view W.fails W.later (W.link from.new) (W.plan from.new) (W.faults from.new) (W.traffic from.new)) }
     ensures target_calm { IsCalm (blob_piece (W.link to.old)) (wires_view W.fails W.later (W.link to.new) (W.plan to.new) (W.faults to.new) (W.traffic to.new)) }
     ensures commands { commands_at (W.link to.new) ≡ commands_at (W.link to.old) }
+    ensures source_worker { KeepsWorker (P.known source.old.device.port) (P.known source.new.device.port) }
+    ensures source_rest { P.rest source.new.device.port ≡ P.rest source.old.device.port }
+    ensures target_worker { KeepsWorker (P.known target.old.device.port) (P.known target.new.device.port) }
+    ensures target_rest { P.rest target.new.device.port ≡ P.rest target.old.device.port }
 {
     blobs_are_told_apart();
     let next = match ask_source(alloc, source, from, target, to, m) {

@@ -1,6 +1,7 @@
 //! What is done where a message of a move was lost.
 ghost use Rattle.std.specs.Prelude.{◌≡◌, true, Some};
 ghost use Rattle.move_codec.specs.declared.message.Message.{Message};
+ghost use Rattle.crb_port.specs.Calls.{KeepsWorker};
 ghost use Rattle.move_core.specs.Hosts.{IsConsistentHost};
 ghost use Rattle.move_core.specs.Sides.{other, side_of};
 ghost use Rattle.move_core.specs.Requests.{wires_view};
@@ -29,6 +30,10 @@ pub fn call_off<P: Port, W: Wires>(
     ensures aborts { target.new ≡ aborted target.old.stage source.old.top target.old }
     ensures wires { wires_view W.fails W.later (W.link to.new) (W.plan to.new) (W.faults to.new) (W.traffic to.new)
         ≡ wires_view W.fails W.later (W.link to.old) (W.plan to.old) (W.faults to.old) (W.traffic to.old) }
+    ensures source_worker { KeepsWorker (P.known source.old.device.port) (P.known source.new.device.port) }
+    ensures source_rest { P.rest source.new.device.port ≡ P.rest source.old.device.port }
+    ensures target_worker { KeepsWorker (P.known target.old.device.port) (P.known target.new.device.port) }
+    ensures target_rest { P.rest target.new.device.port ≡ P.rest target.old.device.port }
 {
     let Some(abort) = source.give_up() else {
         unreachable!()
@@ -55,6 +60,8 @@ fn commit_again<P: Port, W: Wires>(
         AreMoving P.known (to_target result) source.new w target.now v }
     ensures same { source.new ≡ source.old }
     ensures link { W.link from.new ≡ W.link from.old }
+    ensures source_worker { KeepsWorker (P.known source.old.device.port) (P.known source.new.device.port) }
+    ensures source_rest { P.rest source.new.device.port ≡ P.rest source.old.device.port }
 {
     let Some(prepared) = target.again() else {
         unreachable!()
@@ -86,6 +93,10 @@ pub fn make_good<P: Port, W: Wires>(
     ensures calm { IsCalm (blob_piece (W.link from.old)) (wires_view W.fails W.later (W.link from.new) (W.plan from.new) (W.faults from.new) (W.traffic from.new)) }
     ensures target_calm { IsCalm (blob_piece (W.link to.old)) (wires_view W.fails W.later (W.link to.new) (W.plan to.new) (W.faults to.new) (W.traffic to.new)) }
     ensures commands { commands_at (W.link to.new) ≡ commands_at (W.link to.old) }
+    ensures source_worker { KeepsWorker (P.known source.old.device.port) (P.known source.new.device.port) }
+    ensures source_rest { P.rest source.new.device.port ≡ P.rest source.old.device.port }
+    ensures target_worker { KeepsWorker (P.known target.old.device.port) (P.known target.new.device.port) }
+    ensures target_rest { P.rest target.new.device.port ≡ P.rest target.old.device.port }
 {
     match source.side() {
         Side::Offering(_) => call_off(alloc, source, target, to),

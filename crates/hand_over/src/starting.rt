@@ -1,6 +1,7 @@
 //! The first two messages of a move: the Offer and the first Need.
 ghost use Rattle.std.specs.Prelude.{◌≡◌, ◌+◌, ◌*◌, suc, false, Ok};
 ghost use Rattle.crb_machine.specs.Over.{Stops};
+ghost use Rattle.crb_port.specs.Calls.{KeepsWorker};
 ghost use Rattle.move_core.specs.Hosts.{IsConsistentHost};
 ghost use Rattle.move_core.specs.Requests.{wires_view};
 ghost use Rattle.move_core.specs.Sides.{is_active};
@@ -36,6 +37,8 @@ pub fn ask_offer<P: Port, W: Wires>(
     ensures stops { Stops P.known source.old.device (Ok tt) source.new.device }
     ensures link { W.link from.new ≡ W.link from.old }
     ensures count { messages_left source.new (W.link from.new) result ≡ 2 * pieces_from source.new (W.link from.new) + 2 }
+    ensures source_worker { KeepsWorker (P.known source.old.device.port) (P.known source.new.device.port) }
+    ensures source_rest { P.rest source.new.device.port ≡ P.rest source.old.device.port }
 {
     blobs_are_told_apart();
     stopped_devices_go_on::<P>();
@@ -65,6 +68,8 @@ pub fn take_offer<P: Port, W: Wires>(
     ensures pieces { blob_piece (W.link to.new) ≡ blob_piece (W.link to.old) }
     ensures commands { commands_at (W.link to.new) ≡ commands_at (W.link to.old) }
     ensures count { suc (messages_left source.now (W.link from.now) result) ≡ messages_left source.now (W.link from.now) m.now }
+    ensures target_worker { KeepsWorker (P.known target.old.device.port) (P.known target.new.device.port) }
+    ensures target_rest { P.rest target.new.device.port ≡ P.rest target.old.device.port }
 {
     fitting_deliveries_are_sure::<P, W>();
     blobs_are_told_apart();

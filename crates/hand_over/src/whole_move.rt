@@ -40,6 +40,10 @@ fn carry_on<P: Port, W: Wires>(
     ensures calm { IsCalm (blob_piece (W.link from.old)) (wires_view W.fails W.later (W.link from.new) (W.plan from.new) (W.faults from.new) (W.traffic from.new)) }
     ensures target_calm { IsCalm (blob_piece (W.link to.old)) (wires_view W.fails W.later (W.link to.new) (W.plan to.new) (W.faults to.new) (W.traffic to.new)) }
     ensures commands { commands_at (W.link to.new) ≡ commands_at (W.link to.old) }
+    ensures source_worker { KeepsWorker (P.known source.old.device.port) (P.known source.new.device.port) }
+    ensures source_rest { P.rest source.new.device.port ≡ P.rest source.old.device.port }
+    ensures target_worker { KeepsWorker (P.known target.old.device.port) (P.known target.new.device.port) }
+    ensures target_rest { P.rest target.new.device.port ≡ P.rest target.old.device.port }
 {
     let mut m = need;
     let mut number: u32 = 2;
@@ -82,6 +86,10 @@ pub fn move_guest<P: Port, W: Wires>(
     ensures source_calm { IsCalm (blob_piece (W.link source_wires.old)) (wires_view W.fails W.later (W.link source_wires.new) (W.plan source_wires.new) (W.faults source_wires.new) (W.traffic source_wires.new)) }
     ensures target_calm { IsCalm (blob_piece (W.link target_wires.old)) (wires_view W.fails W.later (W.link target_wires.new) (W.plan target_wires.new) (W.faults target_wires.new) (W.traffic target_wires.new)) }
     ensures target_commands { commands_at (W.link target_wires.new) ≡ commands_at (W.link target_wires.old) }
+    ensures source_worker { KeepsWorker (P.known source.old.device.port) (P.known source.new.device.port) }
+    ensures source_rest { P.rest source.new.device.port ≡ P.rest source.old.device.port }
+    ensures target_worker { KeepsWorker (P.known target.old.device.port) (P.known target.new.device.port) }
+    ensures target_rest { P.rest target.new.device.port ≡ P.rest target.old.device.port }
 {
     let _sides = (source.side(), target.side());
     let offer = ask_offer(source, source_wires, target, target_wires);

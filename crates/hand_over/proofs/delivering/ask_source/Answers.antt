@@ -12,4 +12,13 @@ returns g c =
     let turn = source_turn g.P.Meanings.known c.fitting_deliveries_are_sure.ensures c.args.source.now c.deliver.new.self _ _ c.args.target.now _ c.args.m.now c.in-Ok.answer
     c.requires.moving c.in-Ok.ensures.row c.in-Ok.ensures.sound c.in-Ok.ensures.name in
     let goes = source_goes_on g.P.Meanings.known c.args.source.now _ c.deliver.new.self _ c.args.target.now _ c.args.m.now c.in-Ok.answer c.in-Sent.next c.in-Sent.is turn in
-    record { moving = goes.0; source = turn.same; link = turn.link; count = goes.1; same = tt; untouched = tt }
+    record {
+      moving = goes.0;
+      source = turn.same;
+      link = turn.link;
+      count = goes.1;
+      same = tt;
+      untouched = tt;
+      source_worker = c.in-Ok.ensures.worker;
+      source_rest = c.in-Ok.ensures.rest;
+    }

@@ -12,6 +12,8 @@ returns-in-Sent g c =
       pieces = target_pieces known c.fitting_deliveries_are_sure.ensures c.args.source.now _ c.args.target.now c.deliver.new.self _ _ c.args.m.now c.in-Ok.answer c.requires.moving c.in-Ok.ensures.row;
       commands = target_commands known c.fitting_deliveries_are_sure.ensures c.args.source.now _ c.args.target.now c.deliver.new.self _ _ c.args.m.now c.in-Ok.answer c.requires.moving c.in-Ok.ensures.row;
       count = goes.1;
+      target_worker = c.in-Ok.ensures.worker;
+      target_rest = c.in-Ok.ensures.rest;
     }
 
 pub returns : goal.returns
@@ -27,4 +29,6 @@ returns g c =
       pieces = target_pieces known c.fitting_deliveries_are_sure.ensures c.args.source.now _ c.args.target.now c.deliver.new.self _ _ c.args.m.now c.in-Ok.answer c.requires.moving c.in-Ok.ensures.row;
       commands = target_commands known c.fitting_deliveries_are_sure.ensures c.args.source.now _ c.args.target.now c.deliver.new.self _ _ c.args.m.now c.in-Ok.answer c.requires.moving c.in-Ok.ensures.row;
       count = ends.1;
+      target_worker = c.in-Ok.ensures.worker;
+      target_rest = c.in-Ok.ensures.rest;
     }

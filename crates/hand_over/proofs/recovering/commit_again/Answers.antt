@@ -25,4 +25,6 @@ returns g c =
       moving = moving_again g.P.Meanings.known c.args.source.now c.deliver.new.self _ _ c.args.target.now _ c.requires.moving.0 c.in-Sent.commit a (commit ∙ sym gone.says) says.host_is says.wires;
       same = says.host_is;
       link = ap (λ (s : WiresView g.W.Wires.Plan). s.link) says.wires;
+      source_worker = c.in-Ok.ensures.worker;
+      source_rest = c.in-Ok.ensures.rest;
     }

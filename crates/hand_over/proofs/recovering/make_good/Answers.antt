@@ -15,4 +15,8 @@ returns-in_default g c =
       calm = calm_at _ _ _ (ap blob_piece again.link) (calm_target known c.commit_again-commit.new.source _ c.args.target.now _ c.commit_again-commit.result again.moving).0;
       target_calm = calm_at _ _ _ c.ask_target-none.ensures.pieces good.1;
       commands = c.ask_target-none.ensures.commands;
+      source_worker = again.source_worker;
+      source_rest = again.source_rest;
+      target_worker = c.ask_target-none.ensures.target_worker;
+      target_rest = c.ask_target-none.ensures.target_rest;
     }

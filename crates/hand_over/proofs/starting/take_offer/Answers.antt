@@ -14,4 +14,12 @@ returns g c =
     c.args.source.now _ c.args.target.now c.deliver.new.self _ _ c.args.m.now c.in-Ok.answer c.requires.rests
     c.requires.moving c.in-Ok.ensures.row c.in-Ok.ensures.sound c.in-Ok.ensures.name in
     let goes = offer_goes_on g.P.Meanings.known c.args.source.now _ c.args.target.now c.deliver.new.self _ _ c.args.m.now c.in-Ok.answer c.in-Sent.reply c.in-Sent.is taken in
-    record { moving = goes.0; target = taken.rest; pieces = taken.pieces; commands = taken.commands; count = goes.1 }
+    record {
+      moving = goes.0;
+      target = taken.rest;
+      pieces = taken.pieces;
+      commands = taken.commands;
+      count = goes.1;
+      target_worker = c.in-Ok.ensures.worker;
+      target_rest = c.in-Ok.ensures.rest;
+    }

@@ -1,5 +1,6 @@
 use Rattle.std.proofs.Common.{◌≡◌, ◌+◌, ◌*◌, ◌<◌, ◌≤◌, ◌-◌}
 use Rattle.std.specs.Prelude.{IfSome}
+use Rattle.crb_port.specs.Calls.{KeepsWorker}
 use Rattle.move_core.specs.Requests.{wires_view}
 use Rattle.hand_over.specs.Counts.{blob_piece, commands_at, pieces_from, messages_left}
 use Rattle.hand_over.specs.Moving.{AreMoving, IsSameTarget, to_source}
@@ -15,6 +16,10 @@ invariant-loop-lost g l = record {
   target_is : IsSameTarget l.fn.target l.target;
   pieces : blob_piece (g.W.Wires.link l.to) ≡ blob_piece (g.W.Wires.link l.fn.to);
   commands : commands_at (g.W.Wires.link l.to) ≡ commands_at (g.W.Wires.link l.fn.to);
+  source_worker : KeepsWorker (g.P.Meanings.known l.fn.source.device.port) (g.P.Meanings.known l.source.device.port);
+  source_rest : g.P.Meanings.rest l.source.device.port ≡ g.P.Meanings.rest l.fn.source.device.port;
+  target_worker : KeepsWorker (g.P.Meanings.known l.fn.target.device.port) (g.P.Meanings.known l.target.device.port);
+  target_rest : g.P.Meanings.rest l.target.device.port ≡ g.P.Meanings.rest l.fn.target.device.port;
   count : l.number + messages_left l.source (g.W.Wires.link l.from) l.m ≡ 2 * pieces_from l.source (g.W.Wires.link l.from) + 3;
   ahead : IfSome l.lost (λ k. l.number ≤ k);
   small : l.number < 100000;
