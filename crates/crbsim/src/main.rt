@@ -25,6 +25,9 @@ fn main(rt: HostRuntime) -> ExitCode {
     }
     let mut source = StdSource::new(rt.stdin());
     let mut sink = StdSink::new(rt.stdout());
-    let status = run(alloc, &words, &mut source, &mut sink);
+    let ran = run(alloc, &words, &mut source, &mut sink);
+    let status = ran.status;
+    // (The hosts are dropped by a call: dropped in passing, each of their parts is proved once more here.)
+    drop(ran);
     ExitCode::from(status.number())
 }

@@ -7,7 +7,8 @@ use Rattle.ctrl_client.specs.Link.{Link}
 use Rattle.move_codec.specs.declared.message.Message.{Message}
 use Rattle.move_core.specs.Model.{HostModel}
 use Rattle.move_core.specs.Requests.{WiresView}
-use Rattle.hand_over.specs.Counts.{blob_piece, tpm_behind, parts_at, pieces_of, pieces_from, messages_left, left_with, loses, arrives}
+use Rattle.hand_over.specs.Counts.{blob_piece, tpm_behind, parts_at, pieces_of, pieces_from, messages_left, left_with}
+use Rattle.hand_over.specs.Arrival.{loses, arrives}
 use Rattle.hand_over.specs.Ends.{host_as, Arrives, IsTakenBack, Ends, IsCalm}
 use Rattle.hand_over.specs.Moving.{AreMoving, to_target, to_source, IsSameTarget, IsHandedOver, TargetGoes}
 use Rattle.move_core.specs.Table as table

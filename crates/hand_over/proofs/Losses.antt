@@ -24,7 +24,8 @@ use Rattle.move_core.specs.Calls.{Follows, GivesUp, GivesUpAt, said_again}
 use Rattle.hand_over.specs.Host.{HostState, other}
 use Rattle.hand_over.specs.Host as model
 use Rattle.hand_over.specs.Fine.{offered_by}
-use Rattle.hand_over.specs.Counts.{tpm_behind, pieces_left, messages_after, messages_left, loses, arrives}
+use Rattle.hand_over.specs.Counts.{tpm_behind, pieces_left, messages_after, messages_left}
+use Rattle.hand_over.specs.Arrival.{loses, arrives}
 use Rattle.hand_over.specs.Ends.{host_as, Arrives, IsTakenBack, Ends}
 use Rattle.hand_over.specs.Moving.{AreMoving, ToTarget, ToSource, to_target, to_source, IsSameTarget, IsHandedOver}
 use Rattle.hand_over.specs.Moving.ToTarget.{PieceComes, CommitComes}

@@ -14,7 +14,8 @@ use Rattle.move_core.specs.declared.stage.MoveStage.TheVariants.{Empty, Running,
 use Rattle.move_core.specs.Hosts.{IsConsistentHost, IsAtTop}
 use Rattle.move_core.specs.Sides.{side_of, holds_device}
 use Rattle.move_core.specs.Requests.{WiresView}
-use Rattle.hand_over.specs.Counts.{tpm_behind, pieces_from, loses, arrives}
+use Rattle.hand_over.specs.Counts.{tpm_behind, pieces_from}
+use Rattle.hand_over.specs.Arrival.{loses, arrives}
 use Rattle.hand_over.specs.Ends.{host_as, RunsOn, IsLeft, IsTakenBack, Ends, MoveEnds, HasMoved, IsGivenUp}
 use Rattle.hand_over.specs.Moving.{AreMoving}
 use Rattle.hand_over.specs.Start.{to_begin}

@@ -4,7 +4,8 @@ use Rattle.crb_port.specs.Known.{Known}
 use Rattle.move_codec.specs.declared.message.Message.{Message}
 use Rattle.move_core.specs.Model.{HostModel}
 use Rattle.move_core.specs.Requests.{WiresView}
-use Rattle.hand_over.specs.Counts.{tpm_behind, pieces_from, messages_left, arrives}
+use Rattle.hand_over.specs.Counts.{tpm_behind, pieces_from, messages_left}
+use Rattle.hand_over.specs.Arrival.{arrives}
 use Rattle.hand_over.specs.Ends.{Ends}
 use Rattle.hand_over.specs.Moving.{AreMoving, IsSameTarget, to_source}
 

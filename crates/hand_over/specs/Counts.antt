@@ -1,5 +1,5 @@
 -- How many pieces a move has, and how many messages. (Own definitions.)
-use Rattle.std.specs.Prelude.{◌-◌, ◌+◌, ◌*◌, ◌==◌, ℕ, Bool, true, false, nat_lt, length, suc, Option, Some, None}
+use Rattle.std.specs.Prelude.{◌-◌, ◌+◌, ◌*◌, ℕ, length, suc, Option, Some, None}
 use Rattle.std.specs.Int.{div_ceil}
 use Rattle.crb_machine.specs.Values.{held_values}
 use Rattle.device_record.specs.Records.{record_text}
@@ -77,15 +77,3 @@ messages_left h link m = messages_after (sizes_at h link) (parts_at h link) m.bo
 abbrev pub left_with : {P : Type 0} → HostModel P → Option Link → Option Message → ℕ
 left_with h link (Some reply) = suc (messages_left h link reply)
 left_with h link None = 0
-
--- ---- the message that is lost
-
--- the message of this number is the lost one
-abbrev pub loses : Option ℕ → ℕ → Bool
-loses (Some k) number = k == number
-loses None number = false
-
--- The guest gets to the target: nothing is lost, or only the Commit, which is the message 2n + 3 of a move with n pieces, or none of its messages.
-abbrev pub arrives : ℕ → Option ℕ → Bool
-arrives n None = true
-arrives n (Some k) = nat_lt (2 * n + 2) k

@@ -13,7 +13,8 @@ use Rattle.move_core.specs.Model.{HostModel}
 use Rattle.move_core.specs.Requests.{WiresView}
 use Rattle.hand_over.specs.Bridge.{HasStarted}
 use Rattle.hand_over.specs.Fine.{IsUndisturbed}
-use Rattle.hand_over.specs.Counts.{tpm_behind, pieces_from, arrives, loses}
+use Rattle.hand_over.specs.Counts.{tpm_behind, pieces_from}
+use Rattle.hand_over.specs.Arrival.{arrives, loses}
 
 -- a host after a move in which it had this part, of this epoch
 abbrev pub host_as : {P : Type 0} → MoveStage → ℕ → DeviceModel P → HostModel P → HostModel P

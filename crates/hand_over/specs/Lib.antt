@@ -2,6 +2,7 @@ pub mod Parts
 pub mod Host
 pub mod Bridge
 pub mod Fine
+pub mod Arrival
 pub mod Counts
 pub mod Ends
 pub mod Moving

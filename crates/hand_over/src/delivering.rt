@@ -2,7 +2,8 @@
 ghost use Rattle.std.specs.Prelude.{◌≡◌, ◌+◌, ◌*◌, ◌<◌, ◌≤◌, suc, true, false, IfOk, OnErr, IfSome, Ok};
 ghost use Rattle.crb_port.specs.Calls.{KeepsWorker};
 ghost use Rattle.move_core.specs.Requests.{wires_view};
-ghost use Rattle.hand_over.specs.Counts.{blob_piece, tpm_behind, commands_at, pieces_from, messages_left, left_with, loses, arrives};
+ghost use Rattle.hand_over.specs.Counts.{blob_piece, tpm_behind, commands_at, pieces_from, messages_left, left_with};
+ghost use Rattle.hand_over.specs.Arrival.{loses, arrives};
 ghost use Rattle.hand_over.specs.Ends.{IsTakenBack, Ends, IsCalm};
 ghost use Rattle.hand_over.specs.Moving.{AreMoving, to_source, to_target, TargetGoes};
 ghost use Rattle.hand_over.specs.Carrying.{TurnGoes};

@@ -3,7 +3,8 @@ ghost use Rattle.std.specs.Prelude.{◌≡◌, ◌+◌, ◌*◌, ◌≤◌, ◌-
 ghost use Rattle.crb_port.specs.Calls.{KeepsWorker};
 ghost use Rattle.crb_machine.specs.Over.{Stops};
 ghost use Rattle.move_core.specs.Requests.{wires_view};
-ghost use Rattle.hand_over.specs.Counts.{blob_piece, tpm_behind, commands_at, pieces_from, messages_left, arrives};
+ghost use Rattle.hand_over.specs.Counts.{blob_piece, tpm_behind, commands_at, pieces_from, messages_left};
+ghost use Rattle.hand_over.specs.Arrival.{arrives};
 ghost use Rattle.hand_over.specs.Ends.{IsTakenBack, Ends, IsCalm, HasMoved, IsGivenUp};
 ghost use Rattle.hand_over.specs.Moving.{AreMoving, to_source};
 ghost use Rattle.hand_over.specs.Start.{CanMove};

@@ -30,13 +30,25 @@ const FRESH: [u8; 101] = [
     0x43, 0x52, 0x42, 0x5A, 1, 0, 0, 0, 1, 0,
 ];
 
-/// Startup, and no random bytes.
-const COMMANDS: &[u8] = b"cmd 80010000000c000001440000\ncmd 80010000000c0000017b0000\n";
+/// Startup, no random bytes, a move, and 64 random bytes: a command gives at most 32.
+const MOVED: &[u8] = b"cmd 80010000000c000001440000\ncmd 80010000000c0000017b0000\nmove\n\
+cmd 80010000000c0000017b0040\n";
+
+/// What is written for them: at last the first random block of the one power-on.
+const MOVED_RESPONSES: &[u8] = b"80010000000a00000000\n80010000000c000000000000\n\
+80010000002c00000000002044b4c8f8aeb491cea32bd1abbe83ecd26657070d0140c80d7ea9183250b571fd\n";
+
+/// What `bulk` writes for a start alone, and for one line more.
+const BULK_1_0: &[u8] = b"commands 1 moves 0 sha256 \
+df1a3de629b8f5a5d00ad4ac3116b3459a10c952b74405dd6e77630c43379838\n";
+
+const BULK_1_1: &[u8] = b"commands 2 moves 0 sha256 \
+f62d224f499674b80f7e86caaeebab78e5ccce119c29a52e3393fb4927f8c039\n";
 
 const USAGE: &[u8] = b"usage: crbsim replay, drive, suspend, resume, check or bulk\n";
 
 /// Runs in which no call fails.
-const RUNS: [Run; 12] = [
+const RUNS: [Run; 14] = [
     (&["replay"], b"", Status::Ok, b""),
     (
         &["replay"],
@@ -45,20 +57,22 @@ const RUNS: [Run; 12] = [
         b"00000081\nbad line 2\n",
     ),
     (&["replay"], b"r ffd 4", Status::Script, b"bad line 1\n"),
+    (&["drive"], MOVED, Status::Ok, MOVED_RESPONSES),
     (
         &["drive"],
-        COMMANDS,
-        Status::Ok,
-        b"80010000000a00000000\n80010000000c000000000000\n",
+        b"move\nmovefail 0\n",
+        Status::Script,
+        b"bad line 2\n",
     ),
-    (&["drive"], b"move\n", Status::Script, b"bad line 1\n"),
     (&["suspend"], b"", Status::Ok, &FRESH),
     (&["suspend"], CLAIMED, Status::NotYet, b"not yet 1\n"),
     (&["resume"], &FRESH, Status::Ok, b""),
     (&["check"], &FRESH, Status::Ok, b"saved stream 101 bytes\n"),
     (&["check"], b"CRBS", Status::Refused, b"refused cut at 4\n"),
     (&["play"], b"r 0 4\n", Status::Usage, USAGE),
-    (&["bulk", "1", "0"], b"", Status::Usage, USAGE),
+    (&["bulk", "1", "100001"], b"", Status::Usage, USAGE),
+    (&["bulk", "1", "0"], b"", Status::Ok, BULK_1_0),
+    (&["bulk", "1", "1"], b"", Status::Ok, BULK_1_1),
 ];
 
 /// A script of two lines, whose replies are 18 bytes.
@@ -90,7 +104,9 @@ fn is_wanted(alloc: Global, run_of: &Run, faults: &FailingRun) -> Result<bool, A
     let bytes = Bytes::from_slice(alloc, input)?;
     let mut source = MemSource::new(bytes, list(alloc, reads)?);
     let mut sink = MemSink::new(alloc, *room, list(alloc, writes)?)?;
-    let found = run(alloc, &words, &mut source, &mut sink);
+    let ran = run(alloc, &words, &mut source, &mut sink);
+    let found = ran.status;
+    drop(ran);
     Ok(found == *status && sink.bytes() == *output)
 }
 

@@ -28,7 +28,7 @@ use Rattle.crb_history.specs.Device.Stage.{Waiting, Claimed, HasSent, HasRun}
 use Rattle.crb_history.specs.Replies.{with_event, turn_at, Turning, turning_of, has_rest}
 use Rattle.vt_script.specs.declared.event.Event.TheVariants.{Work}
 use Rattle.vt_script.specs.declared.reply.Reply.TheVariants as replied
-use Rattle.vt_seat.specs.Follows.{WorldState}
+use Rattle.vt_seat.specs.State.{WorldState}
 use Rattle.crb_history.specs.Replies.{none_fails}
 use Rattle.vt_world.specs.Bus.{IsAfter, Leads, after_turn}
 use Rattle.script_run.specs.Calls.{IsAtRest, Calls}

@@ -24,7 +24,7 @@ use Rattle.crb_history.specs.Device.{effect_of, phase_of, is_granted, is_cancel,
 use Rattle.crb_history.specs.Device.Stage.{Waiting}
 use Rattle.crb_history.specs.Asked.{held_back, asked_in_time}
 use Rattle.crb_history.specs.Legal.{IsAt}
-use Rattle.vt_seat.specs.Follows.{WorldState}
+use Rattle.vt_seat.specs.State.{WorldState}
 use Rattle.vt_world.specs.Bus.{IsAfter, Leads}
 use Rattle.crb_history.proofs.Bytes.{bytes_at-same, take-bytes_at, take-drop-bytes_at}
 

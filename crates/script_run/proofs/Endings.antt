@@ -1,14 +1,13 @@
 -- What is written when the loop over the lines ends.
 use Rattle.std.proofs.Common.{◌≡◌, ◌≢◌, ℕ, ◌+◌, true, false, List, [], ◌∷◌, ◌++◌, length, refl, ap, sym, subst, ◌∙◌, append_assoc, inl, inr, arith}
 use Rattle.std.proofs.lemmas.List.{append-nil}
-use Rattle.std.specs.Prelude.{Option}
 use Rattle.vt_base.specs.Faults.{Rose}
 use Rattle.vt_base.specs.declared.status.Status.{Status}
 use Rattle.vt_base.specs.declared.status.Status.TheVariants.{Ok, Usage, Script, ReadFault, WriteFault, Memory, Limit, Refused, NotYet}
 use lib.Chars.{codes}
 use Rattle.vt_script.specs.Replies.{numbered}
 use Rattle.script_run.specs.Output.{SinkView, Wrote, Breaks, Finishes, Flushes, Tells, TellsBadLine}
-use Rattle.script_run.specs.Run.{Reading, Leaves, Writes, IsCramped, Prints, IsShort, IsToPrint}
+use Rattle.script_run.specs.Run.{Reading, Leaves, Writes, IsCramped, IsShort}
 use Rattle.script_run.specs.Loop.{HasWritten}
 use Rattle.script_run.proofs.Writing.{wrote-nothing, wrote-more, breaks-longer, breaks-behind}
 
@@ -90,10 +89,6 @@ pends-more a b pending now text output w more = record {
   wrote = w.wrote;
   parts = ap (λ z. w.written ++ z) more ∙ sym (append_assoc w.written pending text) ∙ ap (λ z. z ++ text) w.parts;
 }
-
--- the same, where that output has another form
-pub pends-to : (a b : SinkView) (pending now text output all : List ℕ) → HasWritten a b pending output → now ≡ pending ++ text → output ++ text ≡ all → HasWritten a b now all
-pends-to a b pending now text output all w more is = subst (λ (z : List ℕ). HasWritten a b now z) is (pends-more a b pending now text output w more)
 
 -- what was pending is written, but for what is pending still
 pub pends-less : (a b c : SinkView) (pending after output : List ℕ) → HasWritten a b pending output → Flushes b c pending after → HasWritten a c after output

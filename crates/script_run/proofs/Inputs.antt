@@ -9,7 +9,7 @@ use Rattle.vt_base.specs.declared.status.Status.{Status}
 use Rattle.vt_base.specs.declared.status.Status.TheVariants.{Limit, WriteFault}
 use Rattle.script_run.specs.Actions.{reading_of}
 use Rattle.script_run.specs.Output.{SinkView, Finishes}
-use Rattle.script_run.specs.Run.{Reading, IsCramped}
+use Rattle.script_run.specs.Run.{IsCramped}
 use Rattle.script_run.specs.declared.action.Action.{Action}
 use Rattle.script_run.specs.declared.action.Action.TheVariants.{Replay, Drive, Suspend, Resume, Check}
 
@@ -44,7 +44,3 @@ limit-is is = cc
 pub long-cramped : (action : Action) (input : List ℕ) (result : Status) (a b : SinkView) → 1048576 < length input → Finishes Limit (codes "long input" ++ 10 ∷ []) result a b → result ≡ WriteFault → IsCramped (reading_of action input) a.room
 long-cramped action input result a b long (inl (is, wrote)) fault = absurd (limit-is (sym is ∙ fault))
 long-cramped action input result a b long (inr (is, broken)) fault = (codes "long input" ++ 10 ∷ [], inr (inr (inl (rw (input-is action input) long, refl))), broken.room)
-
--- some words are those of one action at most
-pub one-action : (found : Option Action) (a b : Action) → found ≡ Some a → found ≡ Some b → a ≡ b
-one-action found a b first next = cc

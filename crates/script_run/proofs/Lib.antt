@@ -7,3 +7,8 @@ pub mod Answering
 pub mod Suspending
 pub mod Resuming
 pub mod Inputs
+pub mod Words
+pub mod Handing
+pub mod Guests
+pub mod Placing
+pub mod Bulks

@@ -2,20 +2,23 @@
 use Rattle.std.proofs.Common.{◌≡◌, ℕ, ◌+◌, List, ◌∷◌, ◌++◌, length, inl, inr}
 use Rattle.std.specs.Prelude.{None}
 use Rattle.vt_base.specs.declared.status.Status.{Status}
-use Rattle.script_run.specs.Driven.{command_line}
+use Rattle.crb_port.specs.declared.job.Standing.{Standing}
+use Rattle.vt_script.specs.Drive.{drive_of}
 use Rattle.vt_script.specs.Script.{lines_of, event_of}
 use Rattle.vt_script.specs.Replies.{reply_text}
 use Rattle.vt_script.specs.declared.drive.DriveLine.{DriveLine}
 use Rattle.crb_history.specs.Base.{Base}
 use Rattle.crb_history.specs.Replies.{Transcript, exchange}
-use Rattle.vt_seat.specs.Follows.{WorldState}
+use Rattle.vt_seat.specs.State.{WorldState}
+use Rattle.vt_world.specs.State.{PairState}
 use Rattle.script_run.specs.Driven.{driven}
+use Rattle.script_run.specs.Placed.{placed}
 use Rattle.script_run.specs.Start.{start}
 use Rattle.script_run.specs.Output.{SinkView}
 use Rattle.script_run.specs.Run.{IsShort, Leaves, texts, followed, driven_by}
 use Rattle.script_run.specs.Loop.{StandsAt, DrivesAt, HasWritten, Replied, Responded, EndsHere}
-use Rattle.script_run.proofs.Prefixes.{stands-more, stands-gives, stands-bad, drives-more, drives-gives, drives-bad}
-use Rattle.script_run.proofs.Endings.{leaves-bad, leaves-memory, leaves-unflushed, pends-more, pends-to}
+use Rattle.script_run.proofs.Prefixes.{stands-more, stands-gives, stands-bad, driven-more, drives-more, drives-gives, drives-bad}
+use Rattle.script_run.proofs.Endings.{leaves-bad, leaves-memory, leaves-unflushed, pends-more}
 
 pub follow-ends : (b : Base) (script rest : List ℕ) (t : Transcript) (old : WorldState) (text after : List ℕ) (new : WorldState) (number : ℕ) (pending : List ℕ) (first before now : SinkView) (status : Status)
     → IsShort script → StandsAt b script rest t old → HasWritten first before pending (texts t) → lines_of rest ≡ text ∷ lines_of after → number ≡ length t + 1
@@ -30,15 +33,16 @@ follow-ends b script rest t old text after new number pending first before now s
     rw is (leaves-unflushed (followed b script) first before now _ all (texts t ++ reply_text replied.reply) short
     (stands-gives b script after (exchange replied.line replied.reply ∷ t) new further) more broken)
 
-pub drive-ends : (script rest : List ℕ) (lines : List DriveLine) (old : WorldState) (text after : List ℕ) (new : WorldState) (number : ℕ) (pending : List ℕ) (first before now : SinkView) (status : Status)
+pub drive-ends : (script rest : List ℕ) (lines : List DriveLine) (old : PairState Standing) (text after : List ℕ) (new : PairState Standing) (number : ℕ) (pending : List ℕ) (first before now : SinkView) (status : Status)
     → IsShort script → (drives : DrivesAt script rest lines old) → HasWritten first before pending (driven start.tpm lines) → lines_of rest ≡ text ∷ lines_of after → number ≡ length lines + 1
-    → EndsHere (command_line text ≡ None) (λ all. Responded start drives.history text pending all new) number pending status before now → Leaves status (driven_by script) first now
+    → EndsHere (drive_of text ≡ None) (λ all. Responded drives.driven.history (placed lines) text pending all new) number pending status before now → Leaves status (driven_by script) first now
 drive-ends script rest lines old text after new number pending first before now status short drives w cut count (inl (bad, told)) =
     leaves-bad (driven_by script) first before now (length lines) pending (driven start.tpm lines) short (drives-gives script rest lines old drives) w number status (drives-bad script rest lines old text after drives cut bad) count told
 drive-ends script rest lines old text after new number pending first before now status short drives w cut count (inr (inl finishes)) =
     leaves-memory (driven_by script) first before now (length lines) pending (driven start.tpm lines) short (drives-gives script rest lines old drives) w status finishes
 drive-ends script rest lines old text after new number pending first before now status short drives w cut count (inr (inr (is, all, responded, broken))) =
-    let further = drives-more script rest lines old new text after responded.line pending all drives cut responded.said responded.responds in
-    let more = pends-to first before pending all further.response (driven start.tpm lines) (driven start.tpm (responded.line ∷ lines)) w further.appended further.whole in
+    let on = driven-more lines old new responded.line pending all drives.driven responded.responds in
+    let further = drives-more script rest lines old new text after responded.line drives cut responded.said on.driven in
+    let more = pends-more first before pending all _ (driven start.tpm lines) w on.appended in
     rw is (leaves-unflushed (driven_by script) first before now _ all (driven start.tpm (responded.line ∷ lines)) short
-    (drives-gives script after (responded.line ∷ lines) new further.drives) more broken)
+    (drives-gives script after (responded.line ∷ lines) new further) more broken)

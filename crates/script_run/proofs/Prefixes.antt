@@ -1,26 +1,31 @@
 -- One more line that is done, and what the lines so far give.
-use Rattle.std.proofs.Common.{◌≡◌, ℕ, List, [], ◌∷◌, ◌++◌, length, take, map, refl, ap, sym, ◌∙◌, append_assoc, Some, None, arith}
+use Rattle.std.proofs.Common.{◌≡◌, ℕ, List, [], ◌∷◌, ◌++◌, length, take, map, refl, ap, sym, subst, ◌∙◌, append_assoc, Some, None, arith}
 use Rattle.std.specs.Prelude.{Option, slice_get}
 use Rattle.std.proofs.lemmas.Grind.{common_steps}
 use Rattle.std.proofs.lemmas.List.{length-map}
 use Rattle.vt_script.specs.declared.drive.DriveLine.{DriveLine}
-use Rattle.vt_script.specs.declared.drive.DriveLine.TheVariants.{Cmd, Move, MoveFail}
 use Rattle.vt_script.specs.declared.event.Event.{Event as Line}
 use Rattle.vt_script.specs.declared.reply.Reply.{Reply}
-use Rattle.vt_script.specs.Drive.{hex_line}
+use Rattle.vt_script.specs.Drive.{drive_of}
 use Rattle.vt_script.specs.Script.{lines_of, event_of}
-use Rattle.tpm_core.specs.Answers.{answer}
-use Rattle.tpm_core.specs.Answers.Entry.{Executed}
+use Rattle.tpm_core.specs.Answers.{Entry, values_after}
 use Rattle.crb_history.specs.Base.{Base}
 use Rattle.crb_history.specs.Replies.{Transcript, line_of}
 use Rattle.crb_history.specs.OneHost.{one_told}
-use Rattle.script_run.specs.Calls.{Responds}
-use Rattle.script_run.specs.Driven.{command_line, driven, past_of}
+use Rattle.script_run.specs.Calls.{IsWaiting, Responds}
+use Rattle.script_run.specs.Driven.{driven as driven_text, past_of, past_with, written_for}
+use Rattle.script_run.specs.Placed.{pieces_of_move, placed_by, placed}
 use Rattle.crb_history.specs.Replies.{exchange}
-use Rattle.vt_seat.specs.Follows.{WorldState, Follows, Steps}
+use Rattle.vt_seat.specs.Follows.{Follows, Steps}
+use Rattle.vt_seat.specs.State.{WorldState}
+use Rattle.vt_world.specs.Pairs.{running_world}
+use Rattle.vt_world.specs.State.{PairState}
+use Rattle.vt_world.specs.Placement.{first_placement}
+use Rattle.vt_world.specs.Movable.{IsMovable}
+use Rattle.crb_port.specs.declared.job.Standing.{Standing}
 use Rattle.script_run.specs.Start.{start}
 use Rattle.script_run.specs.Run.{meanings, in_order, spelled, texts, followed, driven_by}
-use Rattle.script_run.specs.Loop.{AreDone, StandsAt, DrivesAt}
+use Rattle.script_run.specs.Loop.{AreDone, StandsAt, HasDriven, DrivesAt}
 
 length-in_order : {A B : Type 0} (f : A → B) (t : List A) → length (in_order f t) ≡ length t
 length-in_order f [] = refl
@@ -79,40 +84,43 @@ stands-all b script rest t world stands end = done-all event_of line_of script r
 pub stands-bad : (b : Base) (script rest : List ℕ) (t : Transcript) (world : WorldState) (text after : List ℕ) → StandsAt b script rest t world → lines_of rest ≡ text ∷ lines_of after → event_of text ≡ None → (followed b script).IsBad (length t)
 stands-bad b script rest t world text after stands cut bad = done-bad event_of line_of script rest t stands.lines text after cut bad
 
-pub drives-start : (script : List ℕ) (world : WorldState) → Follows start [] world → DrivesAt script script [] world
+pub driven-start : (pair : PairState Standing) → Follows start [] (running_world pair) → IsMovable 4096 first_placement pair → HasDriven [] pair
 unfolding start
-drives-start script world follows = record { done = refl; history = []; rest_at = record { after = record { host = one_told start []; follows = follows; unordered = refl; same = refl; legal = tt }; idle = refl }; past = refl }
+driven-start pair follows movable = record {
+  history = [];
+  waits = record {
+    rest = record { after = record { host = one_told start []; follows = follows; unordered = refl; same = refl; legal = tt }; idle = refl };
+    movable = movable;
+  };
+  past = refl;
+}
 
--- one more line of a drive, and the text of its response
-pub record DrivesOn (script after : List ℕ) (lines : List DriveLine) (line : DriveLine) (was now : List ℕ) (world : WorldState) : Type 0 where
-  pub drives : DrivesAt script after (line ∷ lines) world
-  pub response : List ℕ
-  pub appended : now ≡ was ++ response
-  pub whole : driven start.tpm lines ++ response ≡ driven start.tpm (line ∷ lines)
+pub drives-start : (script : List ℕ) (pair : PairState Standing) → HasDriven [] pair → DrivesAt script script [] pair
+drives-start script pair first = record { done = refl; driven = first }
 
-pub drives-more : (script rest : List ℕ) (lines : List DriveLine) (old new : WorldState) (text after : List ℕ) (line : DriveLine) (was now : List ℕ) (drives : DrivesAt script rest lines old) → lines_of rest ≡ text ∷ lines_of after → command_line text ≡ Some line → Responds start drives.history line was now new → DrivesOn script after lines line was now new
-drives-more script rest lines old new text after (Cmd command) was now drives cut is responds =
-    let calls = responds.1 in
-    let answered : responds.0 ≡ answer start.tpm (past_of lines) command = calls.answered ∙ ap (λ past. answer start.tpm past command) drives.past in
-    record {
-      drives = record {
-        done = done-more command_line spelled script rest lines drives.done (Cmd command) text after cut is;
-        history = calls.history;
-        rest_at = calls.rest;
-        past = calls.past ∙ ap (λ before. Executed command ∷ before) drives.past;
-      };
-      response = hex_line responds.0;
-      appended = responds.2;
-      whole = ap (λ response. driven start.tpm lines ++ hex_line response) answered;
-    }
-drives-more script rest lines old new text after Move was now drives cut is responds = absurd responds
-drives-more script rest lines old new text after (MoveFail message) was now drives cut is responds = absurd responds
+-- one more line, and what is written for it
+pub record DrivenOn (lines : List DriveLine) (line : DriveLine) (was now : List ℕ) (pair : PairState Standing) : Type 0 where
+  pub driven : HasDriven (line ∷ lines) pair
+  pub appended : now ≡ was ++ written_for start.tpm (past_of lines) line
 
-pub drives-gives : (script rest : List ℕ) (lines : List DriveLine) (world : WorldState) → DrivesAt script rest lines world → (driven_by script).Gives (length lines) (driven start.tpm lines)
-drives-gives script rest lines world drives = (lines, done-front command_line spelled script rest lines drives.done, refl, refl)
+pub driven-more : (lines : List DriveLine) (old new : PairState Standing) (line : DriveLine) (was now : List ℕ) (has : HasDriven lines old) → Responds has.history (placed lines) line was now new → DrivenOn lines line was now new
+driven-more lines old new line was now has responds = record {
+  driven = record {
+    history = responds.history;
+    waits = subst (λ (past : List Entry). IsWaiting responds.history (placed_by line (pieces_of_move (values_after start.tpm past)) (placed lines)) new) has.past responds.waits;
+    past = responds.past ∙ ap (past_with line) has.past;
+  };
+  appended = responds.appended ∙ ap (λ past. was ++ written_for start.tpm past line) has.past;
+}
 
-pub drives-all : (script rest : List ℕ) (lines : List DriveLine) (world : WorldState) → DrivesAt script rest lines world → rest ≡ [] → length lines ≡ length (lines_of script)
-drives-all script rest lines world drives end = done-all command_line spelled script rest lines drives.done end
+pub drives-more : (script rest : List ℕ) (lines : List DriveLine) (old new : PairState Standing) (text after : List ℕ) (line : DriveLine) → DrivesAt script rest lines old → lines_of rest ≡ text ∷ lines_of after → drive_of text ≡ Some line → HasDriven (line ∷ lines) new → DrivesAt script after (line ∷ lines) new
+drives-more script rest lines old new text after line drives cut is driven = record { done = done-more drive_of spelled script rest lines drives.done line text after cut is; driven = driven }
 
-pub drives-bad : (script rest : List ℕ) (lines : List DriveLine) (world : WorldState) (text after : List ℕ) → DrivesAt script rest lines world → lines_of rest ≡ text ∷ lines_of after → command_line text ≡ None → (driven_by script).IsBad (length lines)
-drives-bad script rest lines world text after drives cut bad = done-bad command_line spelled script rest lines drives.done text after cut bad
+pub drives-gives : (script rest : List ℕ) (lines : List DriveLine) (pair : PairState Standing) → DrivesAt script rest lines pair → (driven_by script).Gives (length lines) (driven_text start.tpm lines)
+drives-gives script rest lines pair drives = (lines, done-front drive_of spelled script rest lines drives.done, refl, refl)
+
+pub drives-all : (script rest : List ℕ) (lines : List DriveLine) (pair : PairState Standing) → DrivesAt script rest lines pair → rest ≡ [] → length lines ≡ length (lines_of script)
+drives-all script rest lines pair drives end = done-all drive_of spelled script rest lines drives.done end
+
+pub drives-bad : (script rest : List ℕ) (lines : List DriveLine) (pair : PairState Standing) (text after : List ℕ) → DrivesAt script rest lines pair → lines_of rest ≡ text ∷ lines_of after → drive_of text ≡ None → (driven_by script).IsBad (length lines)
+drives-bad script rest lines pair text after drives cut bad = done-bad drive_of spelled script rest lines drives.done text after cut bad

@@ -1,6 +1,6 @@
 -- The lines of a script are done, and then the host is saved.
-use Rattle.std.proofs.Common.{◌≡◌, ℕ, Bool, true, false, List, [], ◌∷◌, ◌++◌, length, map, refl, ap, sym, subst, ◌∙◌, Some, None, inl, inr}
-use Rattle.std.specs.Prelude.{◌≢◌, Option, option_and_then, if◌then◌else◌}
+use Rattle.std.proofs.Common.{◌≡◌, ℕ, true, List, [], ◌∷◌, ◌++◌, length, map, refl, ap, sym, subst, ◌∙◌, Some, None, inl, inr}
+use Rattle.std.specs.Prelude.{◌≢◌, Option, option_and_then}
 use Rattle.vt_base.specs.declared.status.Status.{Status}
 use Rattle.vt_base.specs.declared.status.Status.TheVariants.{Ok, NotYet}
 use Rattle.crb_regs.specs.declared.phase.Phase.TheVariants.{Idle, Lost}
@@ -12,7 +12,8 @@ use Rattle.crb_history.specs.Base.{Base}
 use Rattle.crb_history.specs.Device.{phase_of}
 use Rattle.crb_history.specs.Plain.{is_plain, ArePlain, plain, plain_history}
 use Rattle.crb_history.specs.Replies.{Transcript, exchange, line_of, history, order_of, IsRun}
-use Rattle.vt_seat.specs.Follows.{WorldState, Follows, Steps}
+use Rattle.vt_seat.specs.Follows.{Follows, Steps}
+use Rattle.vt_seat.specs.State.{WorldState}
 use Rattle.vt_world.specs.Saving.{CanSave, Saves}
 use Rattle.vt_seat.specs.declared.saving.Saved.TheVariants as saved
 use Rattle.script_run.specs.Start.{start}

@@ -1,7 +1,6 @@
 -- Texts that are written one after the other.
 use Rattle.std.proofs.Common.{◌≡◌, ℕ, ◌+◌, ◌≤◌, List, [], ◌++◌, length, refl, ap, sym, ◌∙◌, append_assoc, arith}
 use Rattle.std.proofs.lemmas.List.{length-append}
-use Rattle.vt_base.specs.Output.{AppendsFront}
 use Rattle.vt_base.proofs.Known.{Appends-more, Appends-nothing}
 use Rattle.script_run.specs.Output.{SinkView, Wrote, Breaks}
 

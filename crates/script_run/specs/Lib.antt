@@ -1,10 +1,13 @@
 pub mod Start
 pub mod Calls
 pub mod Driven
+pub mod Placed
 pub mod Output
 pub mod Run
+pub mod Bulk
 pub mod Words
 pub mod Saved
 pub mod Actions
 pub mod Cursor
 pub mod Loop
+pub mod Ends

@@ -2,10 +2,12 @@
 use Rattle.std.specs.Prelude.{◌≡◌, ◌⊎◌, ℕ, List, [], ◌++◌, map, Option, Some}
 use Rattle.vt_base.specs.declared.status.Status.{Status}
 use Rattle.vt_base.specs.declared.status.Status.TheVariants.{Ok, Memory, NotYet, WriteFault}
+use Rattle.crb_port.specs.declared.job.Standing.{Standing}
 use Rattle.crb_history.specs.Device.{executed}
 use Rattle.crb_history.specs.Event.{History}
 use Rattle.crb_history.specs.Base.{Base}
 use Rattle.crb_history.specs.Replies.{Transcript, IsRun, line_of}
+use Rattle.vt_script.specs.Drive.{drive_of}
 use Rattle.vt_script.specs.Replies.{reply_text}
 use Rattle.vt_script.specs.Script.{event_of}
 use Rattle.vt_script.specs.declared.drive.DriveLine.{DriveLine}
@@ -13,10 +15,14 @@ use Rattle.vt_script.specs.declared.event.Event.{Event as Line}
 use Rattle.vt_script.specs.declared.reply.Reply.{Reply}
 use Rattle.crb_history.specs.Plain.{ArePlain}
 use Rattle.script_run.specs.Saved.{plain_event_of, not_yet_text}
-use Rattle.script_run.specs.Calls.{IsAtRest, Responds}
-use Rattle.script_run.specs.Driven.{command_line, past_of}
+use Rattle.script_run.specs.Calls.{IsWaiting, Responds}
+use Rattle.script_run.specs.Driven.{past_of}
+use Rattle.script_run.specs.Placed.{placed}
 use Rattle.script_run.specs.Start.{start}
-use Rattle.vt_seat.specs.Follows.{WorldState, Follows, Steps}
+use Rattle.vt_seat.specs.Follows.{Follows, Steps}
+use Rattle.vt_seat.specs.State.{WorldState}
+use Rattle.vt_world.specs.State.{PairState}
+use Rattle.vt_world.specs.Placement.{Placement}
 use Rattle.vt_world.specs.Saving.{Saves}
 use Rattle.vt_seat.specs.declared.saving.Saved.TheVariants as saved
 use Rattle.script_run.specs.Output.{SinkView, Wrote, Breaks, Finishes, Flushes, Tells, TellsBadLine}
@@ -32,12 +38,16 @@ pub record StandsAt (b : Base) (script rest : List ℕ) (t : Transcript) (world 
   pub run : IsRun b t
   pub follows : Follows b t world
 
--- the commands of these lines are done, and the world waits for the next
-pub record DrivesAt (script rest : List ℕ) (lines : List DriveLine) (world : WorldState) : Type 0 where
-  pub done : AreDone command_line script rest (in_order spelled lines)
+-- the commands of these lines were executed and their moves were made, and the guest waits for the next line
+pub record HasDriven (lines : List DriveLine) (pair : PairState Standing) : Type 0 where
   pub history : History
-  pub rest_at : IsAtRest start history world
+  pub waits : IsWaiting history (placed lines) pair
   pub past : executed start history ≡ past_of lines
+
+-- these lines are done, and these bytes are left
+pub record DrivesAt (script rest : List ℕ) (lines : List DriveLine) (pair : PairState Standing) : Type 0 where
+  pub done : AreDone drive_of script rest (in_order spelled lines)
+  pub driven : HasDriven lines pair
 
 -- the output so far is written, but for what is pending
 pub record HasWritten (old now : SinkView) (pending output : List ℕ) : Type 0 where
@@ -63,11 +73,11 @@ pub record Replied (b : Base) (t : Transcript) (text pending now : List ℕ) (ne
   pub steps : Steps b t line reply new
   pub appended : now ≡ pending ++ reply_text reply
 
--- the command of a drive line was done, and its response is pending behind what was
-pub record Responded (b : Base) (p : History) (text pending now : List ℕ) (new : WorldState) : Type 0 where
+-- a drive line was done, and what is written for it is pending behind what was
+pub record Responded (p : History) (s : Placement) (text pending now : List ℕ) (new : PairState Standing) : Type 0 where
   pub line : DriveLine
-  pub said : command_line text ≡ Some line
-  pub responds : Responds b p line pending now new
+  pub said : drive_of text ≡ Some line
+  pub responds : Responds p s line pending now new
 
 -- the run goes on: what is pending after the line, or a prefix of it, is written
 abbrev pub GoesOn : (List ℕ → Type 0) → List ℕ → SinkView → SinkView → Type 0

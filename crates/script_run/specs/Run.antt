@@ -6,10 +6,11 @@ use Rattle.vt_base.specs.declared.status.Status.{Status}
 use Rattle.vt_base.specs.declared.status.Status.TheVariants.{Ok, Usage, Script, ReadFault, WriteFault, Memory, Limit, Refused, NotYet}
 use Rattle.vt_script.specs.Script.{lines_of, event_of}
 use Rattle.vt_script.specs.Replies.{reply_text, numbered}
+use Rattle.vt_script.specs.Drive.{drive_of}
 use Rattle.vt_script.specs.declared.drive.DriveLine.{DriveLine}
 use Rattle.crb_history.specs.Base.{Base}
 use Rattle.crb_history.specs.Replies.{Transcript, IsRun, line_of}
-use Rattle.script_run.specs.Driven.{command_line, driven}
+use Rattle.script_run.specs.Driven.{driven}
 use Rattle.script_run.specs.Output.{SinkView, Wrote, Breaks}
 use Rattle.script_run.specs.Start.{start}
 
@@ -21,6 +22,11 @@ meanings grammar script = map grammar (lines_of script)
 abbrev pub in_order : {A B : Type 0} → (A → B) → List A → List B
 in_order f [] = []
 in_order f (x ∷ earlier) = in_order f earlier ++ f x ∷ []
+
+-- the entries of a list, the latest first
+abbrev pub latest_first : {A : Type 0} → List A → List A
+latest_first [] = []
+latest_first (x ∷ later) = latest_first later ++ x ∷ []
 
 -- a drive line that is in the grammar
 abbrev pub spelled : DriveLine → Option DriveLine
@@ -67,13 +73,13 @@ replayed script = followed start script
 -- as a script of `drive`: the answers of one TPM
 abbrev pub Responses : List ℕ → ℕ → List ℕ → Type 0
 Responses script n output =
-    (lines : List DriveLine) × (in_order spelled lines ≡ take (length lines) (meanings command_line script)) × (length lines ≡ n) × (output ≡ driven start.tpm lines)
+    (lines : List DriveLine) × (in_order spelled lines ≡ take (length lines) (meanings drive_of script)) × (length lines ≡ n) × (output ≡ driven start.tpm lines)
 
 abbrev pub driven_by : List ℕ → Reading
 driven_by script = record {
   input = script;
   Gives = Responses script;
-  IsBad = λ n. slice_get (meanings command_line script) n ≡ Some None;
+  IsBad = λ n. slice_get (meanings drive_of script) n ≡ Some None;
   Ends = GivesAll (Responses script) script;
 }
 

@@ -1,76 +1,87 @@
-//! The command `drive`: a driver does the command of each line, and the response is written.
-ghost use Rattle.std.specs.Prelude.{◌≡◌, ◌≢◌, ◌≤◌, None, IfNone, IfSome, IfOk, OnOk, OnErr, length, take};
-ghost use Rattle.std.specs.Option.{option_map};
+//! The command `drive`: a driver does the command of each line, the guest is moved between them, and the responses are
+//! written.
+ghost use Rattle.std.specs.Prelude.{◌≡◌, ◌≤◌, None, IfNone, IfSome, OnOk, OnErr, length, take};
 ghost use Rattle.tpm_frame.specs.Sizes.{IsWellSized};
-ghost use Rattle.vt_script.specs.declared.drive.DriveLine.TheVariants.{Cmd};
+ghost use Rattle.vt_script.specs.Drive.{IsDriveLine, drive_of};
 ghost use Rattle.crb_history.specs.Base.{Base};
 ghost use Rattle.crb_history.specs.Event.{History};
-ghost use Rattle.script_run.specs.Calls.{Calls, IsAtRest, Responds};
-ghost use Rattle.script_run.specs.Driven.{command_line};
+ghost use Rattle.vt_seat.specs.Follows.{tpm_at};
+ghost use Rattle.vt_world.specs.Pairs.{IsRunning, running_world};
+ghost use Rattle.vt_world.specs.Placement.{Placement, moved};
+ghost use Rattle.vt_world.specs.Movable.{IsMovable};
+ghost use Rattle.script_run.specs.Calls.{Calls, CanRespond, IsAtRest, IsWaiting, Responds};
+ghost use Rattle.script_run.specs.Ends.{HandsOut, AreDriveLines};
 ghost use Rattle.script_run.specs.Loop.{Responded, GoesOn, EndsHere};
 ghost use Rattle.script_run.specs.Output.{seen};
+ghost use Rattle.script_run.specs.Placed.{pieces_of_move};
 ghost use Rattle.script_run.specs.Run.{IsShort, Leaves, driven_by};
+ghost use Rattle.script_run.specs.Start.{start};
 
 use crate::cursor::ScriptLines;
 use crate::output::{bad_line, flush_if_full, write_and_end};
-use crate::start::start;
+use crate::ran::{End, Ran};
+use crate::start::start_pair;
 use crb_driver::Driver;
+use crb_port::PlainPort;
 use std::alloc::{AllocError, Global};
 use tpm_core::laws::answers_are_responses;
-use vt_base::{BUFFER_LENGTH, Bytes, Sink, Status};
+use vt_base::{BUFFER_LENGTH, Sink, Status};
 use vt_script::{DriveLine, parse_drive, print_response};
-use vt_world::World;
+use vt_world::{Pair, laws};
 
 /// How often START is read before a command is given up. Four steps of the worker end each command.
 const POLLS: u32 = 8;
 
-/// Does the commands of a script's lines on a new host, and writes the response to each in hexadecimal.
-pub fn drive<K: Sink>(alloc: Global, script: &[u8], sink: &mut K) -> Status
+/// Does a script's drive lines on two new hosts: writes the response to each command in hexadecimal, and moves the
+/// guest to the other host where a line asks for it.
+pub fn drive<K: Sink>(alloc: Global, script: &[u8], sink: &mut K) -> Ran
     requires { IsShort script.now }
-    ensures writes { Leaves result (driven_by script.now) (seen (K.written sink.old) (K.room sink.old) (K.faults sink.old))
+    ensures writes { Leaves result.status (driven_by script.now) (seen (K.written sink.old) (K.room sink.old) (K.faults sink.old))
         (seen (K.written sink.new) (K.room sink.new) (K.faults sink.new)) }
+    ensures hands_out { HandsOut (AreDriveLines script.now) result.status result.end }
 {
-    let Ok(mut world) = start(alloc) else {
-        return Status::Memory;
+    let Ok(mut pair) = start_pair(alloc) else {
+        return Ran {
+            status: Status::Memory,
+            end: End::Nothing,
+        };
     };
     let mut pending = Vec::new(alloc);
     let mut lines = ScriptLines::new(script);
     while let Some(text) = lines.next() {
-        let end = drive_line(alloc, lines.number(), text, &mut world, &mut pending, sink);
+        let end = drive_line(alloc, lines.number(), text, &mut pair, &mut pending, sink);
         if let Some(status) = end {
-            drop(world);
-            return status;
+            return Ran::on_hosts(status, pair);
         }
     }
-    drop(world);
-    write_and_end(sink, &pending, &[], Status::Ok)
+    let status = write_and_end(sink, &pending, &[], Status::Ok);
+    Ran::on_hosts(status, pair)
 }
 
-// Does the command of a line, and appends its response to the pending bytes. It gives the status of a run that ends with
-// this line.
+// Does a line, and appends its response to the pending bytes. It gives the status of a run that ends with this line.
 fn drive_line<K: Sink>(
     alloc: Global,
     number: u64,
     text: &[u8],
-    world: &mut World,
+    pair: &mut Pair<PlainPort>,
     pending: &mut Vec<u8>,
     sink: &mut K,
 ) -> Option<Status>
-    requires rests { (b : Base) × (p : History) × IsAtRest b p world.old }
-    ensures goes_on { IfNone result ((b : Base) (p : History) → IsAtRest b p world.old
-        → GoesOn (λ now. Responded b p text.now pending.old.items now world.new) pending.new.items (seen (K.written sink.old) (K.room sink.old) (K.faults sink.old))
+    requires { CanRespond pair.old }
+    ensures goes_on { IfNone result ((p : History) (s : Placement) → IsWaiting p s pair.old
+        → GoesOn (λ now. Responded p s text.now pending.old.items now pair.new) pending.new.items (seen (K.written sink.old) (K.room sink.old) (K.faults sink.old))
         (seen (K.written sink.new) (K.room sink.new) (K.faults sink.new))) }
-    ensures ends { IfSome result (λ status. (b : Base) (p : History) → IsAtRest b p world.old
-        → EndsHere (command_line text.now ≡ None) (λ now. Responded b p text.now pending.old.items now world.new) number pending.old.items status (seen (K.written sink.old) (K.room sink.old) (K.faults sink.old))
+    ensures ends { IfSome result (λ status. (p : History) (s : Placement) → IsWaiting p s pair.old
+        → EndsHere (drive_of text.now ≡ None) (λ now. Responded p s text.now pending.old.items now pair.new) number pending.old.items status (seen (K.written sink.old) (K.room sink.old) (K.faults sink.old))
         (seen (K.written sink.new) (K.room sink.new) (K.faults sink.new))) }
 {
-    let Ok(found) = command_of(alloc, text) else {
+    let Ok(found) = parse_drive(alloc, text) else {
         return Some(write_and_end(sink, pending, &[], Status::Memory));
     };
-    let Some(command) = found else {
+    let Some(line) = found else {
         return Some(bad_line(alloc, number, pending, sink));
     };
-    let Ok(()) = respond(alloc, world, &command, pending) else {
+    let Ok(()) = respond(alloc, pair, &line, pending) else {
         return Some(write_and_end(sink, pending, &[], Status::Memory));
     };
     let Ok(()) = flush_if_full(pending, sink) else {
@@ -79,47 +90,63 @@ fn drive_line<K: Sink>(
     None
 }
 
-// The command of a line, if it is one. There is one host, so a line that moves a guest is none that can be done.
-fn command_of(alloc: Global, text: &[u8]) -> Result<Option<Bytes>, AllocError>
-    ensures line { IfOk result (λ found. option_map Cmd found ≡ command_line text.now) }
-    ensures sized { IfOk result (λ found. IfSome found (λ command. IsWellSized command)) }
-{
-    match parse_drive(alloc, text)? {
-        Some(DriveLine::Cmd(command)) => Ok(Some(command)),
-        _ => Ok(None),
-    }
-}
-
-// Does a command, and appends the text of its response.
-fn respond(
+/// Does the command of a line and appends the text of its response, or moves the guest and appends nothing. An `Err` is
+/// want of memory.
+#[tactic(auto, using(crate::proofs::Guests::moved_responds))]
+pub fn respond(
     alloc: Global,
-    world: &mut World,
-    command: &Bytes,
+    pair: &mut Pair<PlainPort>,
+    line: &DriveLine,
     into: &mut Vec<u8>,
 ) -> Result<(), AllocError>
-    requires sized { IsWellSized command.now }
-    requires rests { (b : Base) × (p : History) × IsAtRest b p world.old }
-    ensures ok { OnOk result ((b : Base) (p : History) → IsAtRest b p world.old
-        → Responds b p (Cmd command.now) into.old.items into.new.items world.new) }
+    requires valid { IsDriveLine line.now }
+    requires waits { CanRespond pair.old }
+    ensures ok { OnOk result ((p : History) (s : Placement) → IsWaiting p s pair.old
+        → Responds p s line.now into.old.items into.new.items pair.new) }
     ensures err { OnErr result (into.new.items ≡ into.old.items) }
 {
-    let mut response = [0; BUFFER_LENGTH];
-    let count = call(world, command.as_slice(), &mut response);
-    print_response(alloc, &response[..count], into)
+    match line {
+        DriveLine::Cmd(command) => {
+            let mut response = [0; BUFFER_LENGTH];
+            let count = call(pair, command.as_slice(), &mut response);
+            print_response(alloc, &response[..count], into)
+        }
+        DriveLine::Move => move_guest(alloc, pair, None),
+        DriveLine::MoveFail(message) => move_guest(alloc, pair, Some(*message)),
+    }
 }
 
 // Has a driver do a command, and gives the length of the answer, the first bytes of `into`.
-fn call(world: &mut World, command: &[u8], into: &mut [u8]) -> usize
+fn call(pair: &mut Pair<PlainPort>, command: &[u8], into: &mut [u8]) -> usize
     requires sized { IsWellSized command.now }
     requires room { BUFFER_LENGTH ≤ length into.old }
-    requires rests { (b : Base) × (p : History) × IsAtRest b p world.old }
-    ensures calls { (b : Base) (p : History) → IsAtRest b p world.old
-        → Calls b p command.now (take result into.new) world.new }
+    requires rests { (b : Base) × (p : History) × IsAtRest b p (running_world pair.old) }
+    requires runs { IsRunning pair.old }
+    ensures calls { (b : Base) (p : History) → IsAtRest b p (running_world pair.old)
+        → Calls b p command.now (take result into.new) (running_world pair.new) }
     ensures within { result ≤ length into.new }
+    ensures place { (s : Placement) → IsMovable 4096 s pair.old → IsMovable 4096 s pair.new }
 {
     answers_are_responses();
-    match Driver::new().call(world, command, into, POLLS) {
+    laws::accesses_keep_the_placement();
+    match Driver::new().call(pair, command, into, POLLS) {
         Ok(count) => count,
         Err(_fault) => unreachable!(),
     }
+}
+
+// Moves the guest to the other host. Message `lost` of the move is lost, where it is given.
+fn move_guest(
+    alloc: Global,
+    pair: &mut Pair<PlainPort>,
+    lost: Option<u32>,
+) -> Result<(), AllocError>
+    requires waits { CanRespond pair.old }
+    requires counted { IfSome lost (λ k. 1 ≤ k) }
+    ensures moved { OnOk result ((p : History) (s : Placement) → IsWaiting p s pair.old
+        → IsWaiting p (moved (pieces_of_move (tpm_at start p)) lost s) pair.new) }
+{
+    laws::guests_can_move();
+    laws::idle_guests_have_short_records();
+    pair.move_all(alloc, lost)
 }

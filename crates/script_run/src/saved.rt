@@ -13,7 +13,8 @@ use std::alloc::Global;
 use vt_base::{Malformed, Sink, Status, Why};
 use vt_world::{Loaded, World};
 
-/// Goes on from the saved stream at the front of the input: does the lines of the script behind it, and writes a reply to each.
+/// Goes on from the saved stream at the front of the input: does the lines of the script behind it, and writes a reply
+/// to each.
 pub fn resume<K: Sink>(alloc: Global, input: &[u8], sink: &mut K) -> Status
     requires { IsShort input.now }
     ensures writes { Leaves result (resumed input.now) (seen (K.written sink.old) (K.room sink.old) (K.faults sink.old))

@@ -1,16 +1,20 @@
 //! The top call.
-ghost use Rattle.std.specs.Prelude.{◌≡◌, ◌≢◌, ◌⊎◌, ◌+◌, IsTrue, IfSome, IsSomeAnd};
+ghost use Rattle.std.specs.Prelude.{◌≡◌, ◌≢◌, ◌⊎◌, ◌+◌, ℕ, IsTrue, IfSome, IsSomeAnd};
 ghost use Rattle.std.specs.Io.KnownBytes.{IsAtEnd};
 ghost use Rattle.vt_base.specs.Faults.{Rose};
 ghost use Rattle.vt_base.specs.Input.{LosesAtMost};
 ghost use Rattle.script_run.specs.Actions.{reading_of};
-ghost use Rattle.script_run.specs.Output.{seen, Finishes};
+ghost use Rattle.script_run.specs.Bulk.{bulk_summary};
+ghost use Rattle.script_run.specs.Ends.{EndOf, BulkEnd, HasEnd};
+ghost use Rattle.script_run.specs.Output.{seen, Finishes, Tells};
 ghost use Rattle.script_run.specs.Run.{IsShort, Leaves, Writes, IsCramped, IsGood};
-ghost use Rattle.script_run.specs.Words.{IsAction, usage_text};
+ghost use Rattle.script_run.specs.Words.{IsAction, IsBulk, IsUnknown, usage_text};
 
-use crate::action::{Action, action_of};
+use crate::action::{Action, Task, task_of};
+use crate::bulk::bulk;
 use crate::drive::drive;
 use crate::output::write_and_end;
+use crate::ran::{End, Ran};
 use crate::replay::replay;
 use crate::saved::{check, resume};
 use crate::suspend::suspend;
@@ -25,88 +29,124 @@ const USAGE: &[u8] = b"usage: crbsim replay, drive, suspend, resume, check or bu
 const LONG_INPUT: &[u8] = b"long input\n";
 
 /// Does what the words say, over this input and this output. `replay` reads a script and writes one reply a line.
-/// `drive` reads lines `cmd HEX` and writes the response to each command in hexadecimal. `suspend` reads a script, and
-/// writes the saved stream of the host at its end. `resume` reads a saved stream and then a script, and writes one reply a
-/// line. `check` reads a saved stream and writes how long it is.
+/// `drive` reads lines `cmd HEX`, `move` and `movefail K`, and writes the response to each command in hexadecimal.
+/// `suspend` reads a script, and writes the saved stream of the host at its end. `resume` reads a saved stream and then
+/// a script, and writes one reply a line. `check` reads a saved stream and writes how long it is. `bulk N COUNT` reads
+/// nothing: it does the drive lines that are drawn from the seed N, and writes how many of each kind there were and the
+/// SHA-256 of what `drive` writes for them.
 ///
-/// The answer is `Ok` where the whole input was read and done; `Usage` where the words are none that are known, and then
-/// nothing is read; `Script` at the first line that isn't in the grammar; `Limit` for an input of more than 1,048,576 bytes;
-/// `Refused` where the input isn't, or doesn't begin with, a saved stream; `NotYet` where a host can't be saved since a
-/// command of it is claimed and unfinished; `ReadFault` and `WriteFault` where the source or the sink failed; `Memory` where
-/// memory was wanting.
-pub fn run<S: Source, K: Sink>(
-    alloc: Global,
-    words: &[String],
-    source: &mut S,
-    sink: &mut K,
-) -> Status
-    // Where the source and the sink tell their bytes: what is written is what the action reads in the input.
+/// Where `drive` or `bulk` is `Ok`, the two hosts that did the lines are handed out. The status is `Ok` where the whole
+/// input was read and done; `Usage` where the words are none that are known, and then nothing is read; `Script` at the
+/// first line that isn't in the grammar; `Limit` for an input of more than 1,048,576 bytes; `Refused` where the input
+/// isn't, or doesn't begin with, a saved stream; `NotYet` where a host can't be saved since a command of it is claimed
+/// and unfinished; `ReadFault` and `WriteFault` where the source or the sink failed; `Memory` where memory was wanting.
+pub fn run<S: Source, K: Sink>(alloc: Global, words: &[String], source: &mut S, sink: &mut K) -> Ran
+    // Where the bytes of the source and the sink are known: what is written is what the action reads in the input.
     ensures does { (action : Action) → IsAction action words.now
-        → IfSome (S.left source.old) (λ input. Writes result (reading_of action input) (K.written sink.old) (K.written sink.new)) }
+        → IfSome (S.left source.old) (λ input. Writes result.status (reading_of action input) (K.written sink.old) (K.written sink.new)) }
+
+    // `bulk` reads nothing and writes its one line, or nothing for want of memory. A sink fails only where the line is
+    // longer than its promised room.
+    ensures sums_up { (seed count : ℕ) → IsBulk seed count words.now → Tells Status.Ok (bulk_summary seed count) result.status
+        (seen (K.written sink.old) (K.room sink.old) (K.faults sink.old)) (seen (K.written sink.new) (K.room sink.new) (K.faults sink.new)) }
+    ensures needs_no_input { (seed count : ℕ) → IsBulk seed count words.now → source.new ≡ source.old }
+
+    // Where all drive lines were done, the two hosts that did them are handed out; with any other words or status
+    // nothing is.
+    ensures hands_out { (action : Action) → IsAction action words.now
+        → IfSome (S.left source.old) (λ input. EndOf action input result.status result.end) }
+    ensures hands_out_on_ok { (action : Action) → IsAction action words.now → HasEnd action result.status result.end }
+    ensures bulk_hands_out { (seed count : ℕ) → IsBulk seed count words.now → BulkEnd seed count result.status result.end }
+    ensures usage_hands_out { IsUnknown words.now → result.end ≡ End.Nothing }
 
     // Each other answer has its cause.
-    ensures usage { result ≡ Status.Usage → (action : Action) → IsAction action words.now → ⊥ }
-    ensures words { ((action : Action) → IsAction action words.now → ⊥) → Finishes Status.Usage usage_text result
+    ensures usage { result.status ≡ Status.Usage → IsUnknown words.now }
+    ensures words { IsUnknown words.now → Finishes Status.Usage usage_text result.status
         (seen (K.written sink.old) (K.room sink.old) (K.faults sink.old)) (seen (K.written sink.new) (K.room sink.new) (K.faults sink.new)) }
-    ensures read_fault { result ≡ Status.ReadFault → Rose (S.faults source.old) (S.faults source.new) }
-    ensures write_fault { result ≡ Status.WriteFault → Rose (K.faults sink.old) (K.faults sink.new) }
+    ensures read_fault { result.status ≡ Status.ReadFault → Rose (S.faults source.old) (S.faults source.new) }
+    ensures write_fault { result.status ≡ Status.WriteFault → Rose (K.faults sink.old) (K.faults sink.new) }
 
-    // A source that promises not to fail gives no fault, and a sink fails only where some output is longer than its promised room.
-    ensures reads_if_promised { IsTrue (S.steady source.old) → result ≢ Status.ReadFault }
+    // A source that promises not to fail gives no fault, and a sink fails only where some output is longer than its
+    // promised room.
+    ensures reads_if_promised { IsTrue (S.steady source.old) → result.status ≢ Status.ReadFault }
     ensures writes_if_promised { (action : Action) → IsAction action words.now
-        → IfSome (S.left source.old) (λ input. result ≡ Status.WriteFault → IsCramped (reading_of action input) (K.room sink.old)) }
+        → IfSome (S.left source.old) (λ input. result.status ≡ Status.WriteFault → IsCramped (reading_of action input) (K.room sink.old)) }
 
-    // With words that aren't known nothing is read; a run that ends well read its input to the end, and none reads much past the limit.
-    ensures unread { ((action : Action) → IsAction action words.now → ⊥) → source.new ≡ source.old }
-    ensures read_to_end { result ≡ Status.Ok → IsAtEnd (S.left source.new) }
+    // With words that aren't known nothing is read; a run that ends well read its input to the end, and none reads much
+    // past the limit.
+    ensures unread { IsUnknown words.now → source.new ≡ source.old }
+    ensures read_to_end { (action : Action) → IsAction action words.now → result.status ≡ Status.Ok → IsAtEnd (S.left source.new) }
     ensures at_most_limit { LosesAtMost (S.left source.old) (S.left source.new) (1048576 + 4096) }
 
     // Over a good input, with no fault of the source or the sink, it does its work or lacks memory.
     ensures complete { (action : Action) → IsAction action words.now → IsSomeAnd (S.left source.old) (λ input. IsGood (reading_of action input))
         → (Rose (S.faults source.old) (S.faults source.new) → ⊥) → (Rose (K.faults sink.old) (K.faults sink.new) → ⊥)
-        → (result ≡ Status.Ok) ⊎ (result ≡ Status.Memory) }
+        → (result.status ≡ Status.Ok) ⊎ (result.status ≡ Status.Memory) }
 {
-    match action_of(words) {
-        Some(action) => perform(alloc, action, source, sink),
-        None => write_and_end(sink, &[], USAGE, Status::Usage),
+    match task_of(words) {
+        Some(Task::Read(action)) => perform(alloc, action, source, sink),
+        Some(Task::Bulk { seed, count }) => bulk(alloc, seed, count, sink),
+        None => Ran {
+            status: write_and_end(sink, &[], USAGE, Status::Usage),
+            end: End::Nothing,
+        },
     }
 }
 
 // Reads the input, and does what the action makes of it.
-fn perform<S: Source, K: Sink>(
-    alloc: Global,
-    action: Action,
-    source: &mut S,
-    sink: &mut K,
-) -> Status
-    ensures writes { IfSome (S.left source.old) (λ input. Writes result (reading_of action input) (K.written sink.old) (K.written sink.new)) }
-    ensures not_usage { result ≢ Status.Usage }
-    ensures read_fault { result ≡ Status.ReadFault → Rose (S.faults source.old) (S.faults source.new) }
-    ensures write_fault { result ≡ Status.WriteFault → Rose (K.faults sink.old) (K.faults sink.new) }
-    ensures reads_if_promised { IsTrue (S.steady source.old) → result ≢ Status.ReadFault }
-    ensures writes_if_promised { IfSome (S.left source.old) (λ input. result ≡ Status.WriteFault → IsCramped (reading_of action input) (K.room sink.old)) }
-    ensures read_to_end { result ≡ Status.Ok → IsAtEnd (S.left source.new) }
+fn perform<S: Source, K: Sink>(alloc: Global, action: Action, source: &mut S, sink: &mut K) -> Ran
+    ensures writes { IfSome (S.left source.old) (λ input. Writes result.status (reading_of action input) (K.written sink.old) (K.written sink.new)) }
+    ensures not_usage { result.status ≢ Status.Usage }
+    ensures read_fault { result.status ≡ Status.ReadFault → Rose (S.faults source.old) (S.faults source.new) }
+    ensures write_fault { result.status ≡ Status.WriteFault → Rose (K.faults sink.old) (K.faults sink.new) }
+    ensures reads_if_promised { IsTrue (S.steady source.old) → result.status ≢ Status.ReadFault }
+    ensures writes_if_promised { IfSome (S.left source.old) (λ input. result.status ≡ Status.WriteFault → IsCramped (reading_of action input) (K.room sink.old)) }
+    ensures read_to_end { result.status ≡ Status.Ok → IsAtEnd (S.left source.new) }
     ensures at_most_limit { LosesAtMost (S.left source.old) (S.left source.new) (1048576 + 4096) }
+    ensures hands_out { IfSome (S.left source.old) (λ input. EndOf action input result.status result.end) }
+    ensures hands_out_on_ok { HasEnd action result.status result.end }
 {
     match read_all(alloc, source, LONGEST_INPUT) {
         Input::Whole(input) => act_on(alloc, action, &input, sink),
-        Input::TooLong => write_and_end(sink, &[], LONG_INPUT, Status::Limit),
-        Input::Fault => Status::ReadFault,
-        Input::Memory => Status::Memory,
+        Input::TooLong => Ran {
+            status: write_and_end(sink, &[], LONG_INPUT, Status::Limit),
+            end: End::Nothing,
+        },
+        Input::Fault => Ran {
+            status: Status::ReadFault,
+            end: End::Nothing,
+        },
+        Input::Memory => Ran {
+            status: Status::Memory,
+            end: End::Nothing,
+        },
     }
 }
 
 // Does what the action makes of an input that isn't too long.
-fn act_on<K: Sink>(alloc: Global, action: Action, input: &[u8], sink: &mut K) -> Status
+fn act_on<K: Sink>(alloc: Global, action: Action, input: &[u8], sink: &mut K) -> Ran
     requires { IsShort input.now }
-    ensures writes { Leaves result (reading_of action input.now) (seen (K.written sink.old) (K.room sink.old) (K.faults sink.old))
+    ensures writes { Leaves result.status (reading_of action input.now) (seen (K.written sink.old) (K.room sink.old) (K.faults sink.old))
         (seen (K.written sink.new) (K.room sink.new) (K.faults sink.new)) }
+    ensures hands_out { EndOf action input.now result.status result.end }
 {
     match action {
-        Action::Replay => replay(alloc, input, sink),
+        Action::Replay => Ran {
+            status: replay(alloc, input, sink),
+            end: End::Nothing,
+        },
         Action::Drive => drive(alloc, input, sink),
-        Action::Suspend => suspend(alloc, input, sink),
-        Action::Resume => resume(alloc, input, sink),
-        Action::Check => check(alloc, input, sink),
+        Action::Suspend => Ran {
+            status: suspend(alloc, input, sink),
+            end: End::Nothing,
+        },
+        Action::Resume => Ran {
+            status: resume(alloc, input, sink),
+            end: End::Nothing,
+        },
+        Action::Check => Ran {
+            status: check(alloc, input, sink),
+            end: End::Nothing,
+        },
     }
 }

@@ -14,7 +14,8 @@ use Rattle.crb_history.specs.Event.{History}
 use Rattle.crb_history.specs.Device.{phase_of, last_command, executed}
 use Rattle.crb_history.specs.Asked.{asked_in_time}
 use Rattle.crb_history.specs.OneHost.{OneHost}
-use Rattle.vt_seat.specs.Follows.{WorldState, FollowsIn, Placed, IsDue, IsDeviceAfter, place_of, tpm_at}
+use Rattle.vt_seat.specs.Follows.{FollowsIn, Placed, IsDue, IsDeviceAfter, place_of, tpm_at}
+use Rattle.vt_seat.specs.State.{WorldState}
 use Rattle.vt_seat.specs.Moves.{CanGo, IsAtRest, GoesOnFrom}
 use Rattle.vt_seat.proofs.Guests.{collected-collected}
 use Rattle.vt_seat.proofs.Jobs.{Rests, to_rest, from_rest}

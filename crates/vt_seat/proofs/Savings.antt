@@ -34,7 +34,8 @@ use Rattle.state_blobs.specs.Texts.{text_of}
 use Rattle.saved_stream.specs.Streams.{framed, stream_text}
 use Rattle.vt_seat.specs.Blobs.{IsReadable}
 use Rattle.vt_seat.specs.Wires.{fresh_wires}
-use Rattle.vt_seat.specs.Follows.{HoldsBytes, HoldsBuffer, Placed, IsDue, IsLinkAfter, Stands, WorldState, Follows, FollowsIn, place_of, tpm_at}
+use Rattle.vt_seat.specs.Follows.{HoldsBytes, HoldsBuffer, Placed, IsDue, IsLinkAfter, Stands, Follows, FollowsIn, place_of, tpm_at}
+use Rattle.vt_seat.specs.State.{WorldState}
 use Rattle.vt_seat.specs.Follows.Placed.{AtHome, InQueue, InHand, OnWay, Ran}
 use Rattle.vt_seat.proofs.Guests.{collected-collected}
 use Rattle.vt_seat.proofs.Jobs.{is_resting, to_rest}

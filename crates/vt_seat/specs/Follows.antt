@@ -6,9 +6,7 @@ use Rattle.crb_machine.specs.Over.{plain_device}
 use Rattle.crb_machine.specs.State.{DeviceState, Slot}
 use Rattle.crb_machine.specs.State.Slot.{Home, Queued, Claimed as ClaimedSlot}
 use Rattle.crb_machine.specs.Steps.{collected}
-use Rattle.crb_machine.specs.Model.{DeviceModel}
 use Rattle.crb_port.specs.declared.job.Job.{Job}
-use Rattle.crb_port.specs.declared.job.Standing.{Standing}
 use Rattle.crb_worker.specs.declared.progress.Progress.{Progress}
 use Rattle.crb_worker.specs.declared.progress.Progress.TheVariants.{Free, Claimed as ClaimedJob, Sent as SentJob, Run as RunJob}
 use Rattle.crb_worker.specs.declared.progress.Step.{Step}
@@ -33,6 +31,7 @@ use Rattle.crb_history.specs.OneHost.{OneHost, fails_in, one_after, one_told}
 use Rattle.vt_script.specs.declared.event.Event.{Event as Line}
 use Rattle.vt_script.specs.declared.reply.Reply.{Reply}
 use Rattle.vt_script.specs.declared.reply.Reply.TheVariants as replied
+use Rattle.vt_seat.specs.State.{WorldState}
 
 -- ---- the device
 
@@ -142,14 +141,6 @@ pub record Stands (b : Base) (p : History) (d : DeviceState) (progress : Progres
   pub job : Placed b p (collected d).slot progress
   pub quiet : IsQuiet l
   pub link : is_lost (phase_of b p) ≡ false → IsLinkAfter b p l
-
--- a world, seen part by part
-pub record WorldState : Type 0 where
-  pub device : DeviceModel Standing
-  pub progress : Progress
-  pub link : Link
-  pub due : Option ℕ
-  pub faults : ℕ
 
 -- the world stands where this is told of its host
 pub record FollowsIn (b : Base) (s : OneHost) (w : WorldState) : Type 0 where

@@ -1,4 +1,5 @@
 pub mod Wires
+pub mod State
 pub mod Follows
 pub mod Seats
 pub mod Blobs

@@ -15,7 +15,8 @@ use Rattle.crb_history.specs.Continued.{device_after}
 use Rattle.crb_history.specs.Device.{phase_of}
 use Rattle.crb_history.specs.OneHost.{OneHost}
 use Rattle.crb_history.specs.Replies.{is_under_way}
-use Rattle.vt_seat.specs.Follows.{WorldState, FollowsIn, IsDesk, tpm_at}
+use Rattle.vt_seat.specs.Follows.{FollowsIn, IsDesk, tpm_at}
+use Rattle.vt_seat.specs.State.{WorldState}
 
 -- the emulator behind a link is on, with this TPM, and waits for a command
 pub record EmulatorRests (tpm : TpmParts) (l : Link) : Type 0 where

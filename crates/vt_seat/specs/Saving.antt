@@ -12,8 +12,9 @@ use Rattle.crb_history.specs.Continued.{base_after, MaySuspend}
 use Rattle.crb_history.specs.OneHost.{OneHost}
 use Rattle.crb_history.specs.Replies.{is_under_way}
 use Rattle.move_codec.specs.declared.names.HostName.{HostName}
-use Rattle.vt_seat.specs.Follows.{WorldState, FollowsIn, Follows}
-use Rattle.vt_seat.specs.Seats.{SeatState, world_of, StartsAs}
+use Rattle.vt_seat.specs.Follows.{FollowsIn, Follows}
+use Rattle.vt_seat.specs.State.{WorldState, SeatState}
+use Rattle.vt_seat.specs.Seats.{world_of, StartsAs}
 use Rattle.vt_seat.specs.declared.saving.Saved.{Saved}
 use Rattle.vt_seat.specs.declared.saving.Saved.TheVariants as saved
 

@@ -1,24 +1,13 @@
 -- A seat: a host, its worker, and the wires to its emulator. (Own definitions.)
 use Rattle.std.specs.Prelude.{◌≡◌, ℕ, Option, Some, None}
 use Rattle.crb_port.specs.declared.job.Standing.{Standing}
-use Rattle.crb_worker.specs.declared.progress.Progress.{Progress}
 use Rattle.crb_worker.specs.declared.progress.Progress.TheVariants.{Free}
-use Rattle.ctrl_client.specs.Link.{Link}
 use Rattle.move_codec.specs.declared.names.HostName.{HostName}
 use Rattle.move_core.specs.Model.{HostModel}
 use Rattle.move_core.specs.Requests.{WiresView, wires_view}
 use Rattle.move_core.specs.declared.stage.MoveStage.TheVariants.{Empty, Running}
 use Rattle.vt_seat.specs.Wires.{WiresState, fresh_wires, is_due, passed}
-use Rattle.vt_seat.specs.Follows.{WorldState}
-
--- the host, how far its worker is, the link to its emulator, how many calls on the wires come before the one that is to
--- fail, where one is, and how many have failed
-pub record SeatState (P : Type 0) : Type 0 where
-  pub host : HostModel P
-  pub progress : Progress
-  pub link : Link
-  pub due : Option ℕ
-  pub faults : ℕ
+use Rattle.vt_seat.specs.State.{WorldState, SeatState}
 
 -- its wires
 abbrev pub wires_of : {P : Type 0} → SeatState P → WiresState

@@ -1,7 +1,8 @@
 //! Laws of guests that go on.
 ghost use Rattle.crb_history.specs.Base.{Base};
 ghost use Rattle.crb_history.specs.OneHost.{OneHost};
-ghost use Rattle.vt_seat.specs.Follows.{WorldState, FollowsIn};
+ghost use Rattle.vt_seat.specs.Follows.{FollowsIn};
+ghost use Rattle.vt_seat.specs.State.{WorldState};
 ghost use Rattle.vt_seat.specs.Moves.{CanGo, IsAtRest, GoesOnFrom};
 
 /// A guest whose device was stopped goes on where its history leads, at its seat or at another one.

@@ -32,7 +32,7 @@ pub struct Seat<P: Port> {
 
 impl<P: Port> Model for Seat<P> {
     ghost use Rattle.crb_worker.specs.Progress.{HasClaimed};
-    ghost use Rattle.vt_seat.specs.Seats.{SeatState};
+    ghost use Rattle.vt_seat.specs.State.{SeatState};
 
     ghost Value = { SeatState P };
 

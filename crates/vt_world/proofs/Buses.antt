@@ -14,7 +14,8 @@ use Rattle.vt_script.specs.declared.reply.Reply.{Reply}
 use Rattle.vt_script.specs.declared.reply.Reply.TheVariants as replied
 use Rattle.vt_world.specs.Bus.{IsAfter, IsReady, Leads, after_access, after_turn, event_by}
 use Rattle.crb_history.proofs.Unordered.{still_none}
-use Rattle.vt_seat.specs.Follows.{WorldState, FollowsIn, StepsIn}
+use Rattle.vt_seat.specs.Follows.{FollowsIn, StepsIn}
+use Rattle.vt_seat.specs.State.{WorldState}
 
 is_there : (at : ℕ) → at ≡ 0x4C → (at == 0x4C) ≡ true
 is_there at here = rw here refl

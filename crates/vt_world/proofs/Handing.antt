@@ -24,15 +24,17 @@ use Rattle.move_codec.specs.declared.names.HostName.TheVariants.{A, B}
 use Rattle.move_core.specs.Model.{HostModel}
 use Rattle.move_core.specs.Sides.{other, is_active}
 use Rattle.hand_over.specs.Bridge.{standing}
-use Rattle.hand_over.specs.Counts.{CommandState, commands_at, pieces_of, pieces_from, arrives, loses}
+use Rattle.hand_over.specs.Counts.{CommandState, commands_at, pieces_of, pieces_from}
+use Rattle.hand_over.specs.Arrival.{arrives, loses}
 use Rattle.hand_over.specs.Ends.{IsCalm, Arrives, RunsOn, IsLeft, MoveEnds}
 use Rattle.hand_over.specs.Start.{CanStop}
 use Rattle.vt_seat.specs.Wires.{is_due, passed}
-use Rattle.vt_seat.specs.Follows.{WorldState, FollowsIn, tpm_at}
+use Rattle.vt_seat.specs.Follows.{FollowsIn, tpm_at}
+use Rattle.vt_seat.specs.State.{WorldState, SeatState}
 use Rattle.vt_seat.specs.Moves.{CanGo, IsAtRest, GoesOnFrom, EmulatorRests}
-use Rattle.vt_seat.specs.Seats.{SeatState, world_of, view_of}
+use Rattle.vt_seat.specs.Seats.{world_of, view_of}
 use Rattle.vt_world.specs.Moving.{CanMoveTo, LeavesSeats, Moves, GivesUp}
-use Rattle.vt_world.specs.Placement.{HasPieces, IsIdleSeat, IsMovableTo, pieces_at}
+use Rattle.vt_world.specs.Movable.{HasPieces, IsIdleSeat, IsMovableTo, pieces_at}
 
 unwrap : {A : Type 0} (x y : A) → Some x ≡ Some y → x ≡ y
 unwrap x y is = cc

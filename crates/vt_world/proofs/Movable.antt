@@ -10,14 +10,17 @@ use Rattle.move_codec.specs.declared.names.HostName.{HostName}
 use Rattle.move_codec.specs.declared.names.HostName.TheVariants.{A, B}
 use Rattle.move_core.specs.Model.{HostModel}
 use Rattle.move_core.specs.Sides.{other, is_active, is_running}
-use Rattle.hand_over.specs.Counts.{arrives}
-use Rattle.vt_seat.specs.Follows.{WorldState, FollowsIn}
+use Rattle.hand_over.specs.Arrival.{arrives}
+use Rattle.vt_seat.specs.Follows.{FollowsIn}
+use Rattle.vt_seat.specs.State.{WorldState, SeatState}
 use Rattle.vt_seat.specs.Moves.{CanGo}
-use Rattle.vt_seat.specs.Seats.{SeatState, StartsAs, IsEmptySeat, world_of}
+use Rattle.vt_seat.specs.Seats.{StartsAs, IsEmptySeat, world_of}
 use Rattle.vt_seat.specs.Wires.{WiresState}
 use Rattle.vt_world.specs.Moving.{CanMoveTo, CanMoveFrom, MovesFrom, GivesUpFrom, GivesUp, PairCanMove, PairMoves, PairGivesUp}
-use Rattle.vt_world.specs.Pairs.{PairState, PairLeads, KeepsSeat, KeepsSeats, seat_of, running_world}
-use Rattle.vt_world.specs.Placement.{Placement, IsPlaced, IsMovableTo, IsMovable, top_of, running_top, first_placement, placement_of, moved, given_up, pieces_at}
+use Rattle.vt_world.specs.Pairs.{PairLeads, KeepsSeat, KeepsSeats, running_world}
+use Rattle.vt_world.specs.State.{PairState, seat_of}
+use Rattle.vt_world.specs.Placement.{Placement, IsPlaced, top_of, running_top, first_placement, placement_of, moved, given_up}
+use Rattle.vt_world.specs.Movable.{IsMovableTo, IsMovable, pieces_at}
 use Rattle.vt_world.proofs.Placing.{is_a, at_a, at_world, running_at, idle_stage, placed_by, back_by}
 use Rattle.vt_world.proofs.Handing.{GuestLaws, SeatsEnd, can_move_to, seats_moved, seats_given_up}
 

@@ -7,7 +7,8 @@ use Rattle.move_codec.specs.declared.names.HostName.TheVariants.{A}
 use Rattle.move_core.specs.Sides.{is_running}
 use Rattle.vt_seat.specs.Follows.{Follows}
 use Rattle.vt_seat.specs.Seats.{StartsAs, world_of}
-use Rattle.vt_world.specs.Pairs.{PairState, runs_at_a, IsPairReady}
+use Rattle.vt_world.specs.Pairs.{IsPairReady}
+use Rattle.vt_world.specs.State.{PairState, runs_at_a}
 
 -- A's guest can be accessed.
 pub ready_first : (seed : List ℕ) (piece : ℕ) (w : PairState Standing) → StartsAs A piece w.a → Follows (fresh seed) [] (world_of w.a) → IsPairReady w

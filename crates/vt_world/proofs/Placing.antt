@@ -13,11 +13,13 @@ use Rattle.move_core.specs.Requests.{WiresView}
 use Rattle.move_core.specs.Sides.{other, is_active, is_running}
 use Rattle.move_core.specs.declared.stage.MoveStage.{MoveStage}
 use Rattle.move_core.specs.declared.stage.MoveStage.TheVariants.{Empty, Running, Offering, Released, Filling, Prepared}
-use Rattle.hand_over.specs.Counts.{pieces_from, arrives, loses}
+use Rattle.hand_over.specs.Counts.{pieces_from}
+use Rattle.hand_over.specs.Arrival.{arrives, loses}
 use Rattle.hand_over.specs.Ends.{MoveEnds, IsTakenBack}
 use Rattle.vt_seat.specs.Seats.{world_of, view_of}
 use Rattle.vt_world.specs.Moving.{CanMoveFrom, MovesFrom, GivesUpFrom, PairCanMove, PairMoves, PairGivesUp, pieces_moved_from, pieces_moved}
-use Rattle.vt_world.specs.Pairs.{PairState, seat_of, runs_at_a, running_host, running_world}
+use Rattle.vt_world.specs.Pairs.{running_world}
+use Rattle.vt_world.specs.State.{PairState, seat_of, runs_at_a, running_host}
 use Rattle.vt_world.specs.Placement.{Placement, top_of, placement_of, moved, given_up, IsPlaced}
 
 pub idle_stage : (s : MoveStage) → is_active s ≡ false → is_running s ≡ false

@@ -20,10 +20,12 @@ use Rattle.crb_history.specs.Event.{History}
 use Rattle.crb_history.specs.Event.Event.{Read, Write, Claim, Sent, Exec, Finish, Ask, Reset, ResetLost}
 use Rattle.crb_history.specs.Legal.{Legal}
 use Rattle.crb_history.specs.OneHost.{OneHost}
-use Rattle.vt_seat.specs.Follows.{WorldState, tpm_at}
+use Rattle.vt_seat.specs.Follows.{tpm_at}
+use Rattle.vt_seat.specs.State.{WorldState}
 use Rattle.vt_seat.specs.Moves.{CanGo, IsAtRest}
 use Rattle.vt_world.specs.Bus.{IsAfter}
-use Rattle.vt_world.specs.Placement.{values_in, pieces_at, pieces_by}
+use Rattle.vt_world.specs.Placement.{pieces_by}
+use Rattle.vt_world.specs.Movable.{values_in, pieces_at}
 use Rattle.std.specs.Int.{div_ceil}
 use Rattle.vt_base.specs.declared.words.Kind.TheVariants as kind
 use Rattle.tpm_core.specs.declared.parts.TpmParts.{TpmParts}

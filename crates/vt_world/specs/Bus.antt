@@ -11,7 +11,8 @@ use Rattle.crb_history.specs.Legal.{Legal}
 use Rattle.crb_history.specs.Replies.{with_event, turn, none_fails}
 use Rattle.crb_history.specs.OneHost.{OneHost}
 use Rattle.vt_script.specs.declared.event.Event.TheVariants.{Work}
-use Rattle.vt_seat.specs.Follows.{WorldState, FollowsIn}
+use Rattle.vt_seat.specs.Follows.{FollowsIn}
+use Rattle.vt_seat.specs.State.{WorldState}
 
 -- the world stands where this history of one device over one TPM leads, and no call is ordered to fail
 pub record IsAfter (b : Base) (p : History) (w : WorldState) : Type 0 where

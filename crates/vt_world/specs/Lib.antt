@@ -1,5 +1,7 @@
 pub mod Bus
 pub mod Saving
+pub mod State
 pub mod Pairs
 pub mod Moving
 pub mod Placement
+pub mod Movable

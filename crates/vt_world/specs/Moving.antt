@@ -5,8 +5,9 @@ use Rattle.crb_worker.specs.declared.progress.Progress.TheVariants.{Free}
 use Rattle.hand_over.specs.Counts.{commands_at, pieces_from}
 use Rattle.hand_over.specs.Ends.{HasMoved, IsGivenUp, IsCalm}
 use Rattle.hand_over.specs.Start.{CanMove}
-use Rattle.vt_seat.specs.Seats.{SeatState, view_of}
-use Rattle.vt_world.specs.Pairs.{PairState, runs_at_a}
+use Rattle.vt_seat.specs.Seats.{view_of}
+use Rattle.vt_seat.specs.State.{SeatState}
+use Rattle.vt_world.specs.State.{PairState, runs_at_a}
 
 -- the guest at a seat can be moved to the other one; neither worker has a job in hand
 pub record CanMoveTo {P : Type 0} (known : P → Known) (source target : SeatState P) : Type 0 where

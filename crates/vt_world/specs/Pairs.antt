@@ -1,40 +1,22 @@
 -- Two hosts with their wires. (Own definitions.)
-use Rattle.std.specs.Prelude.{◌≡◌, ℕ, Bool, true, false, if◌then◌else◌, Option, Some, None}
+use Rattle.std.specs.Prelude.{◌≡◌, ℕ, Bool, true, false, if◌then◌else◌}
 use Rattle.crb_regs.specs.Access.{Access}
 use Rattle.crb_port.specs.declared.job.Standing.{Standing}
-use Rattle.move_codec.specs.declared.names.HostName.{HostName}
-use Rattle.move_codec.specs.declared.names.HostName.TheVariants.{A, B}
 use Rattle.move_core.specs.Model.{HostModel}
 use Rattle.move_core.specs.Sides.{is_running}
 use Rattle.vt_seat.specs.Wires.{WiresState}
-use Rattle.vt_seat.specs.Follows.{WorldState}
-use Rattle.vt_seat.specs.Seats.{SeatState, new_seat, world_of}
+use Rattle.vt_seat.specs.State.{WorldState, SeatState}
+use Rattle.vt_seat.specs.Seats.{new_seat, world_of}
 use Rattle.vt_world.specs.Bus.{IsReady, Leads}
-
-pub record PairState (P : Type 0) : Type 0 where
-  pub a : SeatState P
-  pub b : SeatState P
+use Rattle.vt_world.specs.State.{PairState, runs_at_a}
 
 -- two hosts with their wires, whose workers have nothing in hand
 abbrev pub new_pair : {P : Type 0} → HostModel P → HostModel P → WiresState → WiresState → PairState P
 new_pair a b wires_a wires_b = record { a = new_seat a wires_a; b = new_seat b wires_b }
 
--- the seat of a host
-abbrev pub seat_of : {P : Type 0} → HostName → PairState P → SeatState P
-seat_of A w = w.a
-seat_of B w = w.b
-
--- A's guest runs
-abbrev pub runs_at_a : {P : Type 0} → PairState P → Bool
-runs_at_a w = is_running w.a.host.stage
-
 -- a guest runs
 abbrev pub IsRunning : {P : Type 0} → PairState P → Type 0
 IsRunning w = (if runs_at_a w then true else is_running w.b.host.stage) ≡ true
-
--- the host whose guest runs, if one does
-abbrev pub running_host : {P : Type 0} → PairState P → Option HostName
-running_host w = if runs_at_a w then Some A else (if is_running w.b.host.stage then Some B else None)
 
 -- what that guest sees
 abbrev pub running_world : PairState Standing → WorldState

@@ -5,7 +5,8 @@ use Rattle.saved_stream.specs.Refusals.{IsStreamRefused}
 use Rattle.crb_history.specs.Base.{Base}
 use Rattle.crb_history.specs.Replies.{Transcript, history}
 use Rattle.crb_history.specs.OneHost.{one_told}
-use Rattle.vt_seat.specs.Follows.{WorldState, Follows}
+use Rattle.vt_seat.specs.Follows.{Follows}
+use Rattle.vt_seat.specs.State.{WorldState}
 use Rattle.vt_seat.specs.Saving as seat
 use Rattle.vt_seat.specs.declared.saving.Saved.{Saved}
 use Rattle.vt_world.specs.declared.saving.Loaded.{Loaded}

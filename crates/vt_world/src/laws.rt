@@ -10,12 +10,15 @@ ghost use Rattle.crb_history.specs.Base.{Base};
 ghost use Rattle.crb_history.specs.Device.{phase_of};
 ghost use Rattle.crb_history.specs.Event.{History};
 ghost use Rattle.crb_history.specs.OneHost.{OneHost};
-ghost use Rattle.vt_seat.specs.Follows.{WorldState, FollowsIn, tpm_at};
+ghost use Rattle.vt_seat.specs.Follows.{FollowsIn, tpm_at};
+ghost use Rattle.vt_seat.specs.State.{WorldState};
 ghost use Rattle.vt_seat.specs.Moves.{CanGo};
 ghost use Rattle.vt_world.specs.Bus.{IsAfter};
 ghost use Rattle.vt_world.specs.Moving.{PairCanMove, PairMoves, PairGivesUp, pieces_moved};
-ghost use Rattle.vt_world.specs.Pairs.{PairState, PairLeads, running_world};
-ghost use Rattle.vt_world.specs.Placement.{Placement, IsPlaced, IsMovable, running_top, moved, given_up, values_in, pieces_at, pieces_by};
+ghost use Rattle.vt_world.specs.Pairs.{PairLeads, running_world};
+ghost use Rattle.vt_world.specs.State.{PairState};
+ghost use Rattle.vt_world.specs.Placement.{Placement, IsPlaced, running_top, moved, given_up, pieces_by};
+ghost use Rattle.vt_world.specs.Movable.{IsMovable, values_in, pieces_at};
 
 use crb_machine::{held_devices_go_on, stopped_devices_go_on};
 use crb_port::{PlainPort, Port};

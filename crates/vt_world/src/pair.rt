@@ -5,8 +5,10 @@ ghost use Rattle.vt_seat.specs.Follows.{Follows};
 ghost use Rattle.vt_seat.specs.Seats.{wires_of, world_of, StartsAs, IsEmptySeat};
 ghost use Rattle.vt_seat.specs.Wires.{emulator_of};
 ghost use Rattle.vt_world.specs.Moving.{PairCanMove, PairMoves, PairGivesUp};
-ghost use Rattle.vt_world.specs.Placement.{IsMovable, first_placement};
-ghost use Rattle.vt_world.specs.Pairs.{new_pair, seat_of, running_host, IsPairReady};
+ghost use Rattle.vt_world.specs.Placement.{first_placement};
+ghost use Rattle.vt_world.specs.Movable.{IsMovable};
+ghost use Rattle.vt_world.specs.Pairs.{new_pair, IsPairReady};
+ghost use Rattle.vt_world.specs.State.{seat_of, running_host};
 
 use crb_port::{PlainPort, Port};
 use move_codec::HostName;
@@ -27,7 +29,7 @@ pub struct Pair<P: Port> {
 impl<P: Port> Model for Pair<P> {
     ghost use Rattle.std.specs.Prelude.{◌≡◌};
     ghost use Rattle.move_codec.specs.declared.names.HostName.TheVariants.{A, B};
-    ghost use Rattle.vt_world.specs.Pairs.{PairState};
+    ghost use Rattle.vt_world.specs.State.{PairState};
 
     ghost Value = { PairState P };
 

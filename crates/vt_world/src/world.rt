@@ -22,7 +22,7 @@ pub struct World {
 impl Model for World {
     ghost use Rattle.std.specs.Prelude.{◌≡◌, true};
     ghost use Rattle.move_core.specs.Sides.{is_running};
-    ghost use Rattle.vt_seat.specs.Follows.{WorldState};
+    ghost use Rattle.vt_seat.specs.State.{WorldState};
     ghost use Rattle.vt_seat.specs.Seats.{world_of};
 
     ghost Value = { WorldState };

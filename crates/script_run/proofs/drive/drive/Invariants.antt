@@ -9,7 +9,7 @@ use Rattle.script_run.proofs.drive.drive.Given as goal
 -- the lines that are done have their responses written, or pending
 abbrev pub invariant-loop-text : goal.invariant-loop-text
 invariant-loop-text g l = record {
-  done : (lines : List DriveLine) × DrivesAt l.script l.lines.rest lines l.world
+  done : (lines : List DriveLine) × DrivesAt l.script l.lines.rest lines l.pair
       × HasWritten (seen (g.K.Sink.written l.fn.sink) (g.K.Sink.room l.fn.sink) (g.K.Sink.faults l.fn.sink)) (seen (g.K.Sink.written l.sink) (g.K.Sink.room l.sink) (g.K.Sink.faults l.sink)) l.pending.items (driven start.tpm lines) × (l.lines.number ≡ length lines);
 }
 

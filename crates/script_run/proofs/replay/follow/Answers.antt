@@ -1,4 +1,4 @@
-use Rattle.std.proofs.Common.{◌≡◌, length, refl, [], ◌∷◌, arith}
+use Rattle.std.proofs.Common.{length, refl, [], ◌∷◌, arith}
 use Rattle.vt_script.specs.Replies.{reply_text}
 use Rattle.crb_history.specs.Replies.{exchange}
 use Rattle.script_run.specs.Run.{texts, followed}

@@ -1,7 +1,6 @@
-use Rattle.std.proofs.Common.{◌≡◌, ◌∙◌, length, refl, sym, [], ◌∷◌, arith}
+use Rattle.std.proofs.Common.{◌∙◌, length, refl, sym, [], ◌∷◌, arith}
 use Rattle.crb_history.specs.Replies.{exchange}
 use Rattle.crb_history.specs.OneHost.{one_told}
-use Rattle.script_run.specs.Output.{seen}
 use Rattle.script_run.specs.Saved.{suspended}
 use Rattle.script_run.specs.Start.{start}
 use Rattle.script_run.proofs.Endings.{leaves-nothing, leaves-bad, nothing-written}

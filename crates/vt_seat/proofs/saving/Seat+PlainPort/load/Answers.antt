@@ -12,7 +12,8 @@ use Rattle.saved_stream.specs.Streams.{IsStream}
 use Rattle.move_core.specs.Model.{HostModel}
 use Rattle.vt_seat.specs.Wires.{WiresState, wires_to}
 use Rattle.vt_seat.specs.Follows.{Follows}
-use Rattle.vt_seat.specs.Seats.{SeatState, new_seat, world_of}
+use Rattle.vt_seat.specs.Seats.{new_seat, world_of}
+use Rattle.vt_seat.specs.State.{SeatState}
 use Rattle.vt_seat.proofs.Counted.{follows_any}
 use Rattle.vt_seat.proofs.Savings.{follows-first}
 use Rattle.vt_seat.proofs.saving.Seat+PlainPort.load.Goals as goal

@@ -11,7 +11,8 @@ use Rattle.move_core.specs.Recording.{Records}
 use Rattle.move_core.specs.declared.answers.OfferFault.{OfferFault}
 use Rattle.move_core.specs.declared.answers.OfferFault.TheVariants as fault
 use Rattle.vt_seat.specs.Follows.{FollowsIn, tpm_at}
-use Rattle.vt_seat.specs.Seats.{SeatState, world_of}
+use Rattle.vt_seat.specs.Seats.{world_of}
+use Rattle.vt_seat.specs.State.{SeatState}
 use Rattle.vt_seat.proofs.Counted.{follows_any}
 use Rattle.vt_seat.proofs.Savings.{busy_at, number_at, readable}
 use Rattle.vt_seat.proofs.Recorded.{recorded_here, not_yet_here}

@@ -1,7 +1,8 @@
 use Rattle.std.proofs.Common.{[], ap, sym, subst, ◌∙◌}
 use Rattle.vt_base.specs.Faults.{IsCounted}
 use Rattle.crb_port.specs.declared.job.Standing.{Standing}
-use Rattle.vt_seat.specs.Seats.{SeatState, world_of}
+use Rattle.vt_seat.specs.Seats.{world_of}
+use Rattle.vt_seat.specs.State.{SeatState}
 use Rattle.vt_seat.specs.Follows.{FollowsIn}
 use Rattle.vt_seat.proofs.Asks.{ask-steps, ask_failed-steps}
 use Rattle.vt_seat.proofs.Counted.{follows_any, steps_any, ask_counted}

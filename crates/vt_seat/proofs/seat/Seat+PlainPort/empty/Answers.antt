@@ -2,7 +2,8 @@ use Rattle.std.proofs.Common.{ap, ◌∙◌}
 use Rattle.crb_port.specs.declared.job.Standing.{Standing}
 use Rattle.move_core.specs.Model.{HostModel}
 use Rattle.vt_seat.specs.Wires.{wires_to}
-use Rattle.vt_seat.specs.Seats.{SeatState, wires_of}
+use Rattle.vt_seat.specs.Seats.{wires_of}
+use Rattle.vt_seat.specs.State.{SeatState}
 use Rattle.vt_seat.proofs.seat.Seat+PlainPort.empty.Goals as goal
 
 pub returns : goal.returns

@@ -7,7 +7,8 @@ use Rattle.crb_history.specs.Base.{fresh}
 use Rattle.move_core.specs.Model.{HostModel}
 use Rattle.vt_seat.specs.Wires.{fresh_wires, wires_to}
 use Rattle.vt_seat.specs.Follows.{Follows}
-use Rattle.vt_seat.specs.Seats.{SeatState, new_seat, world_of}
+use Rattle.vt_seat.specs.Seats.{new_seat, world_of}
+use Rattle.vt_seat.specs.State.{SeatState}
 use Rattle.vt_seat.proofs.Counted.{follows_any}
 use Rattle.vt_seat.proofs.Piece.{commands_piece}
 use Rattle.vt_seat.proofs.Resets.{new-follows}

@@ -5,7 +5,8 @@ use Rattle.crb_machine.specs.Over.{plain_device}
 use Rattle.crb_machine.specs.Steps.{reset_reply}
 use Rattle.vt_base.specs.Faults.{IsCounted}
 use Rattle.crb_port.specs.declared.job.Standing.{Standing}
-use Rattle.vt_seat.specs.Seats.{SeatState, world_of}
+use Rattle.vt_seat.specs.Seats.{world_of}
+use Rattle.vt_seat.specs.State.{SeatState}
 use Rattle.vt_seat.specs.Follows.{FollowsIn}
 use Rattle.vt_seat.proofs.Resets.{done_by, lost_device-steps, reset-steps, reset_lost-steps}
 use Rattle.vt_seat.proofs.Steps.{the_same}

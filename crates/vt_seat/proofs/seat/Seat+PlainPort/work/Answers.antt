@@ -1,7 +1,8 @@
 use Rattle.std.proofs.Common.{ap, sym, subst, ◌∙◌}
 use Rattle.move_core.specs.Hosts.{HostRest}
 use Rattle.crb_port.specs.declared.job.Standing.{Standing}
-use Rattle.vt_seat.specs.Seats.{SeatState, world_of}
+use Rattle.vt_seat.specs.Seats.{world_of}
+use Rattle.vt_seat.specs.State.{SeatState}
 use Rattle.vt_seat.specs.Follows.{FollowsIn, CountsFault, said}
 use Rattle.vt_seat.proofs.Steps.{work-steps}
 use Rattle.vt_seat.proofs.Counted.{follows_any, steps_any, work_counted}

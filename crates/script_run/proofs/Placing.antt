@@ -1,0 +1,48 @@
+-- How far the epochs are after so many lines.
+use Rattle.std.proofs.Common.{◌≡◌, ◌≤◌, ◌<◌, ◌+◌, ◌-◌, ◌^◌, ℕ, suc, Bool, true, false, List, [], ◌∷◌, length, refl, arith}
+use Rattle.std.specs.Prelude.{Option, Some, None, if◌then◌else◌}
+use Rattle.crb_port.specs.declared.job.Standing.{Standing}
+use Rattle.move_codec.specs.declared.names.HostName.{HostName}
+use Rattle.move_codec.specs.declared.names.HostName.TheVariants.{A, B}
+use Rattle.hand_over.specs.Arrival.{loses}
+use Rattle.vt_script.specs.declared.drive.DriveLine.{DriveLine}
+use Rattle.vt_script.specs.declared.drive.DriveLine.TheVariants.{Cmd, Move, MoveFail}
+use Rattle.vt_world.specs.State.{PairState}
+use Rattle.vt_world.specs.Placement.{Placement, moved, top_of}
+use Rattle.script_run.specs.Calls.{CanRespond}
+use Rattle.script_run.specs.Loop.{HasDriven}
+use Rattle.script_run.specs.Placed.{placed, pieces_of_move, tpm_after}
+
+record IsWithin (s : Placement) (k : ℕ) : Type 0 where
+  pub a : s.top_a ≤ k
+  pub b : s.top_b ≤ k
+
+moved-within : (n : ℕ) (lost : Option ℕ) (s : Placement) (k : ℕ) → IsWithin s k → IsWithin (moved n lost s) (suc k)
+moved-within n lost s k within = by s.running refl
+  where
+    seen : (first : Bool) (kept other : ℕ) → kept ≤ k → other ≤ k → (if first then kept else other + 1) ≤ suc k
+    seen true kept other kept_small other_small = omega (arith, kept_small)
+    seen false kept other kept_small other_small = omega (arith, other_small)
+
+    by : (running : HostName) → s.running ≡ running → IsWithin (moved n lost s) (suc k)
+    by A is = record { a = rw is (omega (arith, within.a)); b = rw is (seen (loses lost 1) s.top_b s.top_a within.b within.a) }
+    by B is = record { a = rw is (seen (loses lost 1) s.top_a s.top_b within.a within.b); b = rw is (omega (arith, within.b)) }
+
+placed-within : (lines : List DriveLine) → IsWithin (placed lines) (length lines)
+placed-within [] = record { a = omega arith; b = omega arith }
+placed-within (Cmd command ∷ lines) = let within = placed-within lines in record { a = omega (arith, within.a); b = omega (arith, within.b) }
+placed-within (Move ∷ lines) = moved-within (pieces_of_move (tpm_after lines)) None (placed lines) (length lines) (placed-within lines)
+placed-within (MoveFail message ∷ lines) = moved-within (pieces_of_move (tpm_after lines)) (Some message) (placed lines) (length lines) (placed-within lines)
+
+-- so a further line can be done
+pub can-respond : (lines : List DriveLine) (pair : PairState Standing) → HasDriven lines pair → length lines < 2 ^ 64 - 1 → CanRespond pair
+can-respond lines pair driven few = record {
+  history = driven.history;
+  placement = placed lines;
+  waits = driven.waits;
+  more = by (placed lines).running;
+}
+  where
+    by : (name : HostName) → top_of name (placed lines) < 2 ^ 64 - 1
+    by A = omega (arith, few, (placed-within lines).a)
+    by B = omega (arith, few, (placed-within lines).b)

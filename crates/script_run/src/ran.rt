@@ -1,0 +1,42 @@
+//! What a run answers.
+ghost use Rattle.std.specs.Prelude.{◌≡◌};
+ghost use Rattle.script_run.specs.Ends.{end_by};
+
+use crb_port::PlainPort;
+use vt_base::Status;
+use vt_world::Pair;
+
+/// What a run answers.
+#[derive(Drop)]
+pub struct Ran {
+    /// How it ended.
+    pub status: Status,
+    /// What it hands out.
+    pub end: End,
+}
+
+/// What a run hands out at its end.
+#[derive(Drop)]
+pub enum End {
+    /// Nothing: the run ended early, or it has nothing to hand out.
+    Nothing,
+    /// The two hosts on which all drive lines were done.
+    Pair(Pair<PlainPort>),
+}
+
+impl Ran {
+    // A run on two hosts, which hands them out where it ended well.
+    pub(crate) fn on_hosts(status: Status, pair: Pair<PlainPort>) -> Ran
+        ensures status { result.status ≡ status }
+        ensures hosts { result.end ≡ end_by status pair }
+    {
+        let end = match status {
+            Status::Ok => End::Pair(pair),
+            _ => {
+                drop(pair);
+                End::Nothing
+            }
+        };
+        Ran { status, end }
+    }
+}

@@ -1,0 +1,24 @@
+-- What contracts see of a seat, and of what its guest sees. (Own definitions.)
+use Rattle.std.specs.Prelude.{ℕ, Option}
+use Rattle.crb_machine.specs.Model.{DeviceModel}
+use Rattle.crb_port.specs.declared.job.Standing.{Standing}
+use Rattle.crb_worker.specs.declared.progress.Progress.{Progress}
+use Rattle.ctrl_client.specs.Link.{Link}
+use Rattle.move_core.specs.Model.{HostModel}
+
+-- a world, seen part by part
+pub record WorldState : Type 0 where
+  pub device : DeviceModel Standing
+  pub progress : Progress
+  pub link : Link
+  pub due : Option ℕ
+  pub faults : ℕ
+
+-- the host, how far its worker is, the link to its emulator, how many calls on the wires come before the one that is to
+-- fail, where one is, and how many have failed
+pub record SeatState (P : Type 0) : Type 0 where
+  pub host : HostModel P
+  pub progress : Progress
+  pub link : Link
+  pub due : Option ℕ
+  pub faults : ℕ
