@@ -1,7 +1,7 @@
 ghost use Rattle.vt_script.specs.Replies.{IsPrintable};
 
 use crb_regs::Access;
-use move_codec::HostName;
+use move_codec::{HostName, Reason};
 use std::alloc::{AllocError, Global};
 use std::test::Fail;
 use vt_base::Bytes;
@@ -50,6 +50,9 @@ fn single_words(rt: HostRuntime) {
     assert!(rt; matches!(parse_line(b"work"), Some(Event::Work)));
     assert!(rt; matches!(parse_line(b"reset"), Some(Event::Reset)));
     assert!(rt; matches!(parse_line(b"ask"), Some(Event::Ask)));
+    assert!(rt; matches!(parse_line(b"offer"), Some(Event::Offer)));
+    assert!(rt; matches!(parse_line(b"giveup"), Some(Event::GiveUp)));
+    assert!(rt; matches!(parse_line(b"again"), Some(Event::Again)));
 }
 
 // The host and the number of the call that a line orders to fail.
@@ -75,8 +78,38 @@ fn orders(rt: HostRuntime) {
     }
 }
 
+// The host and the number of the call, where the line names the other host.
+#[test]
+fn orders_for_the_other_host(rt: HostRuntime) {
+    assert!(rt; order_of(b"fail b 7") == Some((HostName::B, 7)));
+}
+
+// The number of the message that a line delivers, and of the one that it shows.
+fn message_of(line: &[u8]) -> Option<(bool, u32)> {
+    match parse_line(line)? {
+        Event::Deliver(message) => Some((true, message)),
+        Event::Show(message) => Some((false, message)),
+        _ => None,
+    }
+}
+
+// A line, whether it delivers its message or shows it, and the number of the message.
+const MESSAGES: [(&[u8], (bool, u32)); 4] = [
+    (b"deliver 1", (true, 1)),
+    (b"deliver 65535", (true, 65_535)),
+    (b"show 1", (false, 1)),
+    (b"show 16384", (false, 16_384)),
+];
+
+#[test]
+fn messages(rt: HostRuntime) {
+    for (line, wanted) in MESSAGES {
+        assert!(rt; message_of(line) == Some(wanted), "at {line:?}");
+    }
+}
+
 // Lines that are none of the grammar.
-const NO_EVENTS: [&[u8]; 55] = [
+const NO_EVENTS: [&[u8]; 67] = [
     b"",
     b" ",
     b"work ",
@@ -98,8 +131,20 @@ const NO_EVENTS: [&[u8]; 55] = [
     b"fail a 1 ",
     b"fail a 1 1",
     b"fail  a 1",
-    b"fail b 1",
+    b"fail c 1",
     b"fail A 1",
+    b"fail B 1",
+    b"offer ",
+    b"offer 1",
+    b"giveup 1",
+    b"give up",
+    b"again ",
+    b"deliver",
+    b"deliver 0",
+    b"deliver 01",
+    b"deliver 65536",
+    b"deliver 1 1",
+    b"show",
     b"reset ",
     b" reset",
     b"reset 1",
@@ -202,7 +247,8 @@ fn values(rt: HostRuntime) -> Result<(), Fail> {
 }
 
 // A reply that is no value, and its text.
-const TEXTS: [(Reply, &[u8]); 13] = [
+const TEXTS: [(Reply, &[u8]); 27] = [
+    (Reply::Stopped, b"stopped\n"),
     (Reply::Accepted, b"ok\n"),
     (Reply::Idle, b"idle\n"),
     (Reply::Claim(1), b"claim 1\n"),
@@ -219,6 +265,37 @@ const TEXTS: [(Reply, &[u8]); 13] = [
     (Reply::FailedDevice, b"failed device\n"),
     (Reply::NotYet, b"not yet\n"),
     (Reply::Reset, b"reset\n"),
+    (Reply::EpochEnd, b"epoch end\n"),
+    (
+        Reply::Offered {
+            epoch: 2,
+            message: 12,
+        },
+        b"offered 2 sent 12\n",
+    ),
+    (Reply::NoMessage, b"no message\n"),
+    (Reply::Ignored, b"ignored\n"),
+    (Reply::Took, b"took\n"),
+    (Reply::SentMessage(0), b"sent 0\n"),
+    (Reply::Running, b"running\n"),
+    (Reply::Resumed, b"resumed\n"),
+    (
+        Reply::RefusedSent {
+            reason: Reason::Link,
+            message: 2,
+        },
+        b"refused link sent 2\n",
+    ),
+    (
+        Reply::RefusedSent {
+            reason: Reason::Totals,
+            message: 65_535,
+        },
+        b"refused totals sent 65535\n",
+    ),
+    (Reply::NotOffering, b"not offering\n"),
+    (Reply::ResumedSent(11), b"resumed sent 11\n"),
+    (Reply::NotPrepared, b"not prepared\n"),
 ];
 
 // Whether a reply that is no value is printed so.
@@ -234,6 +311,15 @@ fn texts(rt: HostRuntime) -> Result<(), Fail> {
     for (reply, text) in TEXTS {
         assert!(rt; prints_text(rt.alloc(), reply, text)?, "{text:?}");
     }
+    Ok(())
+}
+
+// A message that is shown.
+#[test]
+fn shown(rt: HostRuntime) -> Result<(), Fail> {
+    let alloc = rt.alloc();
+    let bytes = Bytes::from_slice(alloc, b"CRBM\x01\xff")?;
+    assert!(rt; prints_text(alloc, Reply::Shown(bytes), b"4352424d01ff\n")?);
     Ok(())
 }
 

@@ -8,7 +8,7 @@ use Rattle.crb_regs.specs.declared.phase.Phase.TheVariants.{Execution}
 use Rattle.crb_machine.specs.Phases.{is_accepted, phase_after}
 use Rattle.crb_machine.specs.Steps.{is_start}
 use Rattle.vt_script.specs.declared.event.Event.{Event as Line}
-use Rattle.vt_script.specs.declared.event.Event.TheVariants.{Access as AccessLine, Work, Ask as AskLine, Reset as ResetLine, Fail}
+use Rattle.vt_script.specs.declared.event.Event.TheVariants.{Access as AccessLine, Work, Ask as AskLine, Reset as ResetLine, Offer, Deliver, GiveUp, Again, Show, Fail}
 use Rattle.vt_script.specs.declared.reply.Reply.{Reply}
 use Rattle.vt_script.specs.declared.reply.Reply.TheVariants as replied
 use Rattle.crb_history.specs.Base.{Base}
@@ -119,6 +119,11 @@ leads b t number steps (Some AskLine) reply goes g answers = go reply answers
     go replied.Link is = inr (record { executing = g.executing; same = g.same; unordered = still_none (order_of t) true g.unordered; few = none_more steps (left (stage_of b (history b t))) g.few })
     go r is = inr (record { executing = g.executing; same = g.same; unordered = still_none (order_of t) (is_fault r) g.unordered; few = none_more steps (left (stage_of b (history b t))) g.few })
 leads b t number steps (Some ResetLine) reply goes g answers = cc
+leads b t number steps (Some Offer) reply goes g answers = cc
+leads b t number steps (Some (Deliver message)) reply goes g answers = cc
+leads b t number steps (Some GiveUp) reply goes g answers = cc
+leads b t number steps (Some Again) reply goes g answers = cc
+leads b t number steps (Some (Show message)) reply goes g answers = cc
 leads b t number steps (Some (Fail host call)) reply goes g answers = cc
 leads b t number steps None reply goes g answers = cc
 

@@ -6,7 +6,7 @@ use Rattle.crb_regs.specs.declared.phase.Phase.{Phase}
 use Rattle.crb_regs.specs.declared.phase.Phase.TheVariants.{Execution}
 use Rattle.tpm_core.specs.Answers.{Entry, answer}
 use Rattle.vt_script.specs.declared.event.Event.{Event as Line}
-use Rattle.vt_script.specs.declared.event.Event.TheVariants.{Access as AccessLine, Work, Ask as AskLine, Reset as ResetLine, Fail}
+use Rattle.vt_script.specs.declared.event.Event.TheVariants.{Access as AccessLine, Work, Ask as AskLine, Reset as ResetLine, Offer, Deliver, GiveUp, Again, Show, Fail}
 use Rattle.vt_script.specs.declared.reply.Reply.{Reply}
 use Rattle.vt_script.specs.declared.reply.Reply.TheVariants as replied
 use Rattle.crb_history.specs.Base.{Base}
@@ -68,6 +68,11 @@ answers-same b p sooner c q fails (Some (AccessLine a)) _ joins g answers = absu
 answers-same b p sooner c q fails (Some Work) reply joins g answers = answers ∙ sym (turn-same b p sooner c q fails joins g)
 answers-same b p sooner c q fails (Some AskLine) reply joins g answers = answers
 answers-same b p sooner c q fails (Some ResetLine) reply joins g answers = answers ∙ sym (reset-same b p sooner c q fails g)
+answers-same b p sooner c q fails (Some Offer) reply joins g answers = answers
+answers-same b p sooner c q fails (Some (Deliver message)) reply joins g answers = answers
+answers-same b p sooner c q fails (Some GiveUp) reply joins g answers = answers
+answers-same b p sooner c q fails (Some Again) reply joins g answers = answers
+answers-same b p sooner c q fails (Some (Show message)) reply joins g answers = answers
 answers-same b p sooner c q fails (Some (Fail host call)) reply joins g answers = answers
 answers-same b p sooner c q fails None reply joins g answers = answers
 
@@ -108,12 +113,27 @@ calls-same b p sooner c q fails (Some Work) _ joins g answers = refl
 calls-same b p sooner c q fails (Some AskLine) reply joins g answers = ask_calls reply (response_length b p) (response_length c q)
 calls-same b p sooner c q fails (Some ResetLine) reply joins g answers = reset_calls reply (response_length b p) (response_length c q)
 calls-same b p sooner c q fails (Some (AccessLine a)) reply joins g answers = refl
+calls-same b p sooner c q fails (Some Offer) reply joins g answers = refl
+calls-same b p sooner c q fails (Some (Deliver message)) reply joins g answers = refl
+calls-same b p sooner c q fails (Some GiveUp) reply joins g answers = refl
+calls-same b p sooner c q fails (Some Again) reply joins g answers = refl
+calls-same b p sooner c q fails (Some (Show message)) reply joins g answers = refl
 calls-same b p sooner c q fails (Some (Fail host call)) reply joins g answers = refl
 calls-same b p sooner c q fails None reply joins g answers = refl
 
 -- the counts are the same, or no order stands
 count-more : (line : Option Line) (reply : Reply) (order : Option ℕ) (size other n m : ℕ) → calls_of line reply size ≡ calls_of line reply other → (order ≡ None) ⊎ (n ≡ m)
     → (order_after line reply order ≡ None) ⊎ (count_after line reply size n ≡ count_after line reply other m)
+count-more (Some Offer) reply order size other n m calls (inl none) = inl (still_none order (is_fault reply) none)
+count-more (Some Offer) reply order size other n m calls (inr same) = inr (rw (same, calls) refl)
+count-more (Some (Deliver message)) reply order size other n m calls (inl none) = inl (still_none order (is_fault reply) none)
+count-more (Some (Deliver message)) reply order size other n m calls (inr same) = inr (rw (same, calls) refl)
+count-more (Some GiveUp) reply order size other n m calls (inl none) = inl (still_none order (is_fault reply) none)
+count-more (Some GiveUp) reply order size other n m calls (inr same) = inr (rw (same, calls) refl)
+count-more (Some Again) reply order size other n m calls (inl none) = inl (still_none order (is_fault reply) none)
+count-more (Some Again) reply order size other n m calls (inr same) = inr (rw (same, calls) refl)
+count-more (Some (Show message)) reply order size other n m calls (inl none) = inl (still_none order (is_fault reply) none)
+count-more (Some (Show message)) reply order size other n m calls (inr same) = inr (rw (same, calls) refl)
 count-more (Some (Fail host call)) reply order size other n m calls same = inr refl
 count-more (Some (AccessLine a)) reply order size other n m calls (inl none) = inl (still_none order (is_fault reply) none)
 count-more (Some (AccessLine a)) reply order size other n m calls (inr same) = inr (rw (same, calls) refl)

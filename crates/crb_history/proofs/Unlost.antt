@@ -8,7 +8,7 @@ use Rattle.crb_regs.specs.declared.phase.Phase.TheVariants.{Idle, Ready, Recepti
 use Rattle.crb_port.specs.declared.job.Outcome.{Outcome}
 use Rattle.crb_port.specs.declared.job.Outcome.TheVariants.{Done, Cancelled}
 use Rattle.vt_script.specs.declared.event.Event.{Event as Line}
-use Rattle.vt_script.specs.declared.event.Event.TheVariants.{Access as AccessLine, Work, Ask as AskLine, Reset as ResetLine, Fail}
+use Rattle.vt_script.specs.declared.event.Event.TheVariants.{Access as AccessLine, Work, Ask as AskLine, Reset as ResetLine, Offer, Deliver, GiveUp, Again, Show, Fail}
 use Rattle.vt_script.specs.declared.reply.Reply.TheVariants as replied
 use Rattle.crb_history.specs.Base.{Base}
 use Rattle.crb_history.specs.Event.{History}
@@ -75,4 +75,9 @@ plain-working b (AccessLine a ∷ earlier) are_plain working = not_by_access b (
 plain-working b (Work ∷ earlier) are_plain working = not_by_work b (plain_history b earlier) (is_executing (phase_of b (plain_history b earlier))) (stage_of b (plain_history b earlier)) (turning_of b (plain_history b earlier)) _ (plain-working b earlier are_plain.0 working)
 plain-working b (AskLine ∷ earlier) are_plain working = plain-working b earlier are_plain.0 working
 plain-working b (ResetLine ∷ earlier) are_plain working = not_by_reset b (plain_history b earlier) (is_lost (phase_of b (plain_history b earlier))) (is_under_way b (plain_history b earlier)) _ (plain-working b earlier are_plain.0 working)
+plain-working b (Offer ∷ earlier) are_plain working = cc
+plain-working b ((Deliver message) ∷ earlier) are_plain working = cc
+plain-working b (GiveUp ∷ earlier) are_plain working = cc
+plain-working b (Again ∷ earlier) are_plain working = cc
+plain-working b ((Show message) ∷ earlier) are_plain working = cc
 plain-working b (Fail host call ∷ earlier) are_plain working = cc

@@ -4,7 +4,7 @@ use Rattle.std.specs.Prelude.{if◌then◌else◌, Option, Some, None, IsSome, m
 use Rattle.crb_regs.specs.Access.{Access}
 use Rattle.crb_regs.specs.Registers.{is_executing}
 use Rattle.vt_script.specs.declared.event.Event.{Event as Line}
-use Rattle.vt_script.specs.declared.event.Event.TheVariants.{Access as AccessLine, Work, Ask as AskLine, Reset as ResetLine, Fail}
+use Rattle.vt_script.specs.declared.event.Event.TheVariants.{Access as AccessLine, Work, Ask as AskLine, Reset as ResetLine, Offer, Deliver, GiveUp, Again, Show, Fail}
 use Rattle.vt_script.specs.declared.reply.Reply.{Reply}
 use Rattle.vt_script.specs.declared.reply.Reply.TheVariants as replied
 use Rattle.crb_history.specs.Base.{Base}
@@ -54,6 +54,20 @@ turned b t replied.Asked = refl
 turned b t replied.FailedDevice = refl
 turned b t replied.NotYet = refl
 turned b t replied.Reset = refl
+turned b t replied.Stopped = refl
+turned b t replied.EpochEnd = refl
+turned b t (replied.Offered e m) = refl
+turned b t replied.NoMessage = refl
+turned b t replied.Ignored = refl
+turned b t replied.Took = refl
+turned b t (replied.SentMessage m) = refl
+turned b t replied.Running = refl
+turned b t replied.Resumed = refl
+turned b t (replied.RefusedSent w m) = refl
+turned b t replied.NotOffering = refl
+turned b t (replied.ResumedSent m) = refl
+turned b t replied.NotPrepared = refl
+turned b t (replied.Shown bytes) = refl
 
 -- ---- the one run
 
@@ -63,6 +77,11 @@ unordered-after (AccessLine a) reply order plainly none = still_none order (is_f
 unordered-after Work reply order plainly none = still_none order (is_fault reply) none
 unordered-after AskLine reply order plainly none = still_none order (is_fault reply) none
 unordered-after ResetLine reply order plainly none = still_none order (is_fault reply) none
+unordered-after Offer reply order plainly none = cc
+unordered-after (Deliver message) reply order plainly none = cc
+unordered-after GiveUp reply order plainly none = cc
+unordered-after Again reply order plainly none = cc
+unordered-after (Show message) reply order plainly none = cc
 unordered-after (Fail host call) reply order plainly none = cc
 
 -- none of so many next calls fails
@@ -93,6 +112,11 @@ reply_is b t (AccessLine a) reply plainly none answers legal = access_is b (hist
 reply_is b t Work reply plainly none answers legal = answers ∙ turn-none b t none
 reply_is b t AskLine reply plainly none answers legal = answers ∙ nothing_fails b t ask_reply none
 reply_is b t ResetLine reply plainly none answers legal = answers ∙ nothing_fails b t (reset_reply b (history b t)) none
+reply_is b t Offer reply plainly none answers legal = cc
+reply_is b t (Deliver message) reply plainly none answers legal = cc
+reply_is b t GiveUp reply plainly none answers legal = cc
+reply_is b t Again reply plainly none answers legal = cc
+reply_is b t (Show message) reply plainly none answers legal = cc
 reply_is b t (Fail host call) reply plainly none answers legal = cc
 
 -- a history of lines begins with that of the lines before the last
@@ -159,6 +183,11 @@ one-reply b p fails (Some (AccessLine a)) one two x legal y other = access_is b 
 one-reply b p fails (Some Work) one two x legal y other = x ∙ sym y
 one-reply b p fails (Some AskLine) one two x legal y other = x ∙ sym y
 one-reply b p fails (Some ResetLine) one two x legal y other = x ∙ sym y
+one-reply b p fails (Some Offer) one two x legal y other = absurd x
+one-reply b p fails (Some (Deliver message)) one two x legal y other = absurd x
+one-reply b p fails (Some GiveUp) one two x legal y other = absurd x
+one-reply b p fails (Some Again) one two x legal y other = absurd x
+one-reply b p fails (Some (Show message)) one two x legal y other = absurd x
 one-reply b p fails (Some (Fail host call)) one two x legal y other = x ∙ sym y
 
 pub run-alone : (b : Base) (t u : Transcript) → map line_of t ≡ map line_of u → IsRun b t → IsRun b u → t ≡ u

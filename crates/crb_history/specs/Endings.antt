@@ -1,7 +1,7 @@
 -- How the command that is under way ends. (Own definitions.)
 use Rattle.std.specs.Prelude.{◌≡◌, ℕ, ◌+◌, Bool, true, false, [], ◌∷◌, ◌⊎◌, Option, Some, None, ⊤}
 use Rattle.vt_script.specs.declared.event.Event.{Event as Line}
-use Rattle.vt_script.specs.declared.event.Event.TheVariants.{Access as AccessLine, Work, Ask, Reset, Fail}
+use Rattle.vt_script.specs.declared.event.Event.TheVariants.{Access as AccessLine, Work, Ask, Reset, Offer, Deliver, GiveUp, Again, Show, Fail}
 use Rattle.vt_script.specs.declared.reply.Reply.TheVariants.{Done, Cancelled}
 use Rattle.crb_history.specs.Replies.{Exchange, Transcript}
 
@@ -11,6 +11,11 @@ lets_go_on (Some (AccessLine a)) = true
 lets_go_on (Some Work) = true
 lets_go_on (Some Ask) = true
 lets_go_on (Some Reset) = false
+lets_go_on (Some Offer) = false
+lets_go_on (Some (Deliver message)) = false
+lets_go_on (Some GiveUp) = false
+lets_go_on (Some Again) = false
+lets_go_on (Some (Show message)) = false
 lets_go_on (Some (Fail host call)) = false
 lets_go_on None = false
 
@@ -25,6 +30,11 @@ steps_of (Some (AccessLine a)) = 0
 steps_of (Some Work) = 1
 steps_of (Some Ask) = 0
 steps_of (Some Reset) = 0
+steps_of (Some Offer) = 0
+steps_of (Some (Deliver message)) = 0
+steps_of (Some GiveUp) = 0
+steps_of (Some Again) = 0
+steps_of (Some (Show message)) = 0
 steps_of (Some (Fail host call)) = 0
 steps_of None = 0
 

@@ -2,6 +2,7 @@
 -- the calls since the line that set it. (Own definitions.)
 use Rattle.std.specs.Prelude.{ℕ, ◌+◌, Bool, Option, Some}
 use Rattle.vt_script.specs.declared.event.Event.{Event as Line}
+use Rattle.vt_script.specs.declared.event.Event.TheVariants.{Access as AccessLine, Work, Ask, Reset, Offer, Deliver, GiveUp, Again, Show, Fail}
 use Rattle.vt_script.specs.declared.reply.Reply.{Reply}
 use Rattle.crb_history.specs.Base.{Base}
 use Rattle.crb_history.specs.Event.{History}
@@ -27,3 +28,16 @@ one_after b h line reply = record {
 -- what a transcript says
 abbrev pub one_told : Base → Transcript → OneHost
 one_told b t = record { history = history b t; order = order_of t; count = call_count b t }
+
+-- a line that has a reply where there is one host: it isn't one of a move
+abbrev pub IsOneHostLine : Line → Type 0
+IsOneHostLine (AccessLine a) = Unit {0}
+IsOneHostLine Work = Unit {0}
+IsOneHostLine Ask = Unit {0}
+IsOneHostLine Reset = Unit {0}
+IsOneHostLine Offer = ⊥
+IsOneHostLine (Deliver message) = ⊥
+IsOneHostLine GiveUp = ⊥
+IsOneHostLine Again = ⊥
+IsOneHostLine (Show message) = ⊥
+IsOneHostLine (Fail host call) = Unit {0}

@@ -3,7 +3,7 @@ use Rattle.std.specs.Prelude.{◌≡◌, ℕ, Bool, true, false, List, [], ◌�
 use Rattle.crb_regs.specs.LittleEndian.{number_at}
 use Rattle.crb_regs.specs.Access.{Access}
 use Rattle.vt_script.specs.declared.event.Event.{Event as Line}
-use Rattle.vt_script.specs.declared.event.Event.TheVariants.{Access as AccessLine, Work, Ask, Reset, Fail}
+use Rattle.vt_script.specs.declared.event.Event.TheVariants.{Access as AccessLine, Work, Ask, Reset, Offer, Deliver, GiveUp, Again, Show, Fail}
 use Rattle.vt_script.specs.declared.reply.Reply.{Reply}
 use Rattle.vt_script.specs.declared.reply.Reply.TheVariants as replied
 use Rattle.crb_history.specs.Base.{Base}
@@ -17,6 +17,11 @@ is_plain (AccessLine a) = true
 is_plain Work = true
 is_plain Ask = true
 is_plain Reset = true
+is_plain Offer = false
+is_plain (Deliver message) = false
+is_plain GiveUp = false
+is_plain Again = false
+is_plain (Show message) = false
 is_plain (Fail host call) = false
 
 -- each line is
@@ -35,6 +40,11 @@ plain_reply b p (AccessLine a) = access_reply b p a a.write
 plain_reply b p Work = turn b p none_fails
 plain_reply b p Ask = replied.Asked
 plain_reply b p Reset = reset_reply b p none_fails
+plain_reply b p Offer = replied.Stopped
+plain_reply b p (Deliver message) = replied.Stopped
+plain_reply b p GiveUp = replied.Stopped
+plain_reply b p Again = replied.Stopped
+plain_reply b p (Show message) = replied.Stopped
 plain_reply b p (Fail host call) = replied.Accepted
 
 -- these lines with their replies; the latest line comes first

@@ -4,7 +4,8 @@ use Rattle.crb_regs.specs.Registers.{is_executing, is_lost}
 use Rattle.crb_port.specs.declared.job.Outcome.TheVariants.{Done, Cancelled, Lost}
 use Rattle.tpm_core.specs.Answers.{answer}
 use Rattle.vt_script.specs.declared.event.Event.{Event as Line}
-use Rattle.vt_script.specs.declared.event.Event.TheVariants.{Access, Work, Ask as AskLine, Reset as ResetLine, Fail}
+use Rattle.vt_script.specs.declared.event.Event.TheVariants.{Access, Work, Ask as AskLine, Reset as ResetLine, Offer, Deliver, GiveUp, Again, Show, Fail}
+use Rattle.move_codec.specs.declared.names.Reason.TheVariants as reason
 use Rattle.vt_script.specs.declared.reply.Reply.{Reply}
 use Rattle.vt_script.specs.declared.reply.Reply.TheVariants as replied
 use Rattle.crb_history.specs.Base.{Base}
@@ -50,6 +51,25 @@ is_fault replied.Asked = false
 is_fault replied.FailedDevice = false
 is_fault replied.NotYet = false
 is_fault replied.Reset = false
+is_fault replied.Stopped = false
+is_fault replied.EpochEnd = false
+is_fault (replied.Offered epoch message) = false
+is_fault replied.NoMessage = false
+is_fault replied.Ignored = false
+is_fault replied.Took = false
+is_fault (replied.SentMessage message) = false
+is_fault replied.Running = false
+is_fault replied.Resumed = false
+is_fault (replied.RefusedSent reason.Link message) = true
+is_fault (replied.RefusedSent reason.Busy message) = false
+is_fault (replied.RefusedSent reason.Totals message) = false
+is_fault (replied.RefusedSent reason.Record message) = false
+is_fault (replied.RefusedSent reason.Blob message) = false
+is_fault (replied.RefusedSent reason.Reply message) = false
+is_fault replied.NotOffering = false
+is_fault (replied.ResumedSent message) = false
+is_fault replied.NotPrepared = false
+is_fault (replied.Shown bytes) = false
 
 -- the order after a line and its reply: a later one takes its place, and a fault ends it
 abbrev pub order_after : Option Line → Reply → Option ℕ → Option ℕ
@@ -57,6 +77,11 @@ order_after (Some (Access a)) reply order = if is_fault reply then None else ord
 order_after (Some Work) reply order = if is_fault reply then None else order
 order_after (Some AskLine) reply order = if is_fault reply then None else order
 order_after (Some ResetLine) reply order = if is_fault reply then None else order
+order_after (Some Offer) reply order = if is_fault reply then None else order
+order_after (Some (Deliver message)) reply order = if is_fault reply then None else order
+order_after (Some GiveUp) reply order = if is_fault reply then None else order
+order_after (Some Again) reply order = if is_fault reply then None else order
+order_after (Some (Show message)) reply order = if is_fault reply then None else order
 order_after (Some (Fail host call)) reply order = Some call
 order_after None reply order = if is_fault reply then None else order
 
@@ -80,6 +105,11 @@ calls_of (Some AskLine) _ size = 0
 calls_of (Some ResetLine) replied.Reset size = 2
 calls_of (Some ResetLine) _ size = 0
 calls_of (Some (Access a)) reply size = 0
+calls_of (Some Offer) reply size = 0
+calls_of (Some (Deliver message)) reply size = 0
+calls_of (Some GiveUp) reply size = 0
+calls_of (Some Again) reply size = 0
+calls_of (Some (Show message)) reply size = 0
 calls_of (Some (Fail host call)) reply size = 0
 calls_of None reply size = 0
 
@@ -118,6 +148,11 @@ with_event (Some AskLine) _ fails p = p
 with_event (Some ResetLine) replied.Reset fails p = Reset ∷ p
 with_event (Some ResetLine) replied.Link fails p = ResetLost ∷ p
 with_event (Some ResetLine) _ fails p = p
+with_event (Some Offer) reply fails p = p
+with_event (Some (Deliver message)) reply fails p = p
+with_event (Some GiveUp) reply fails p = p
+with_event (Some Again) reply fails p = p
+with_event (Some (Show message)) reply fails p = p
 with_event (Some (Fail host call)) reply fails p = p
 with_event None reply fails p = p
 
@@ -181,7 +216,8 @@ reset_reply b p fails =
 abbrev pub ask_reply : (ℕ → Bool) → Reply
 ask_reply fails = if fails 2 then replied.Link else replied.Asked
 
--- the reply is the one to this line: a value of its size to a read, `ok` to a write or an order, and else the one that is due
+-- the reply is the one to this line: a value of its size to a read, `ok` to a write or an order, and else the one that is due.
+-- The lines of a move are for two hosts: with one host they have no reply.
 abbrev pub Answers : Base → History → (ℕ → Bool) → Option Line → Reply → Type 0
 Answers b p fails (Some (Access a)) (replied.Value value size) = (a.write ≡ None) × (size ≡ a.size)
 Answers b p fails (Some (Access a)) replied.Accepted = IsSome a.write
@@ -189,6 +225,11 @@ Answers b p fails (Some (Access a)) _ = ⊥
 Answers b p fails (Some Work) reply = reply ≡ turn b p fails
 Answers b p fails (Some AskLine) reply = reply ≡ ask_reply fails
 Answers b p fails (Some ResetLine) reply = reply ≡ reset_reply b p fails
+Answers b p fails (Some Offer) reply = ⊥
+Answers b p fails (Some (Deliver message)) reply = ⊥
+Answers b p fails (Some GiveUp) reply = ⊥
+Answers b p fails (Some Again) reply = ⊥
+Answers b p fails (Some (Show message)) reply = ⊥
 Answers b p fails (Some (Fail host call)) reply = reply ≡ replied.Accepted
 Answers b p fails None reply = ⊥
 

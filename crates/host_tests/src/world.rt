@@ -2,6 +2,8 @@
 //! `examples/transcripts`, and the run whose calls on the wires fail in turn is in `examples/check`.
 ghost use Rattle.std.specs.Prelude.{◌≤◌};
 
+use move_codec::HostName;
+use move_core::Side;
 use std::alloc::{AllocError, Global};
 use std::process::Abort;
 use std::test::*;
@@ -36,8 +38,8 @@ fn fault_of(alloc: Global, bytes: &[u8], piece: u32) -> Result<Option<Malformed>
 
 // What a host answers to lines that move no command.
 fn answers(rt: &impl Abort, world: &mut World) {
-    assert_eq!(rt; world.step(&Event::Work), Reply::Idle);
-    assert_eq!(rt; world.step(&Event::Ask), Reply::Asked);
+    assert!(rt; matches!(&world.guest(&Event::Work), Reply::Idle));
+    assert!(rt; matches!(&world.guest(&Event::Ask), Reply::Asked));
 }
 
 // Whether the emulator behind these wires has a TPM.
@@ -96,5 +98,49 @@ fn a_stream_is_loaded(rt: HostRuntime) -> Result<(), Fail> {
         place: 100,
     };
     assert_eq!(rt; fault_of(rt.alloc(), &FRESH[..100], 4096)?, Some(cut));
+    Ok(())
+}
+
+// The host at which the guest runs once its move was offered and so many messages were delivered.
+fn running_after(alloc: Global, count: u32) -> Result<Option<HostName>, AllocError> {
+    let mut world = World::new(alloc, [0; SEED_SIZE], 4096)?;
+    let done = deliver_first(alloc, &mut world, count);
+    let running = world.running();
+    drop(world);
+    done?;
+    Ok(running)
+}
+
+// The guest is offered, and the first messages are delivered one after the other.
+fn deliver_first(alloc: Global, world: &mut World, count: u32) -> Result<(), AllocError> {
+    drop(world.step(alloc, &Event::Offer)?);
+    for before in 0..count {
+        drop(world.step(alloc, &Event::Deliver(before + 1))?);
+    }
+    Ok(())
+}
+
+// With pieces of 4096 bytes a move has four of them, so it takes eleven deliveries. Nobody runs in between.
+#[test]
+fn a_guest_is_moved_by_its_messages(rt: HostRuntime) -> Result<(), Fail> {
+    assert_eq!(rt; running_after(rt.alloc(), 0)?, None);
+    assert_eq!(rt; running_after(rt.alloc(), 10)?, None);
+    assert_eq!(rt; running_after(rt.alloc(), 11)?, Some(HostName::B));
+    Ok(())
+}
+
+// What a world lends of its hosts.
+fn is_new(rt: &impl Abort, world: &World) {
+    assert_eq!(rt; world.host(HostName::A).side(), Side::Running);
+    assert_eq!(rt; world.host(HostName::B).side(), Side::Empty);
+    assert!(rt; world.emulator(HostName::A).tpm().is_some());
+    assert!(rt; world.emulator(HostName::B).tpm().is_none());
+}
+
+#[test]
+fn a_new_world_lends_its_hosts(rt: HostRuntime) -> Result<(), Fail> {
+    let world = World::new(rt.alloc(), [0; SEED_SIZE], 4096)?;
+    is_new(&rt, &world);
+    drop(world);
     Ok(())
 }

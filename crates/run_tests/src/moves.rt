@@ -11,7 +11,7 @@ use std::process::Abort;
 use std::test::*;
 use vt_base::{Bytes, MemSink, MemSource};
 use vt_script::{DriveLine, print_response};
-use vt_world::Pair;
+use vt_world::{Pair, World};
 
 /// How many commands a session has.
 const COMMANDS: usize = 200;
@@ -61,6 +61,22 @@ const PLACES: [Placed; 8] = [
     (b"movefail 10\n", HostName::A, 1, 1),
     (b"movefail 11\n", HostName::B, 1, 1),
     (b"movefail 12\nmovefail 1\n", HostName::B, 1, 2),
+];
+
+/// Lines of `replay`, the host whose guest runs after them, and the greatest epoch that A and B have seen.
+type Led = (&'static [u8], Option<HostName>, u64, u64);
+
+/// The whole move of a guest after a reset.
+const WHOLE_MOVE: &[u8] =
+    b"offer\ndeliver 1\ndeliver 2\ndeliver 3\ndeliver 4\ndeliver 5\ndeliver 6\n\
+deliver 7\ndeliver 8\ndeliver 9\ndeliver 10\ndeliver 11\n";
+
+const WORLDS: [Led; 5] = [
+    (b"", Some(HostName::A), 0, 0),
+    (b"offer\n", None, 1, 0),
+    (b"offer\ndeliver 1\n", None, 1, 1),
+    (b"offer\ndeliver 1\ngiveup\n", Some(HostName::A), 1, 1),
+    (WHOLE_MOVE, Some(HostName::B), 1, 1),
 ];
 
 // Appends a command of the session.
@@ -127,10 +143,10 @@ fn bulk_script(alloc: Global, mut lines: BulkLines) -> Result<Vec<u8>, AllocErro
     Ok(script)
 }
 
-// What `drive` hands out for a script.
-fn drive(alloc: Global, script: &[u8], sink: &mut MemSink) -> Result<End, AllocError> {
+// What a command hands out for a script.
+fn end_of(alloc: Global, word: &str, script: &[u8], sink: &mut MemSink) -> Result<End, AllocError> {
     let mut words = Vec::new(alloc);
-    words.push(String::from_str(alloc, "drive")?)?;
+    words.push(String::from_str(alloc, word)?)?;
     let mut source = MemSource::new(Bytes::from_slice(alloc, script)?, Vec::new(alloc));
     Ok(run(alloc, &words, &mut source, sink).end)
 }
@@ -138,7 +154,7 @@ fn drive(alloc: Global, script: &[u8], sink: &mut MemSink) -> Result<End, AllocE
 // The SHA-256 of what `drive` writes for a script, in hexadecimal.
 fn digest(alloc: Global, script: &[u8]) -> Result<String, AllocError> {
     let mut sink = MemSink::new(alloc, ROOM, Vec::new(alloc))?;
-    drop(drive(alloc, script, &mut sink)?);
+    drop(end_of(alloc, "drive", script, &mut sink)?);
     hex::encode(alloc, Sha256::digest(sink.bytes()))
 }
 
@@ -153,13 +169,40 @@ fn is_placed(pair: &Pair<PlainPort>, placed: &Placed) -> bool {
 // Whether the hosts that `drive` hands out are placed so.
 fn leads_there(alloc: Global, placed: &Placed) -> Result<bool, AllocError> {
     let mut sink = MemSink::new(alloc, ROOM, Vec::new(alloc))?;
-    match drive(alloc, placed.0, &mut sink)? {
+    match end_of(alloc, "drive", placed.0, &mut sink)? {
         End::Pair(pair) => {
             let there = is_placed(&pair, placed);
             drop(pair);
             Ok(there)
         }
-        End::Nothing => Ok(false),
+        other => {
+            drop(other);
+            Ok(false)
+        }
+    }
+}
+
+// Whether a world is led there.
+fn is_led(world: &World, led: &Led) -> bool {
+    let (_, running, top_a, top_b) = led;
+    world.running() == *running
+        && world.host(HostName::A).top() == *top_a
+        && world.host(HostName::B).top() == *top_b
+}
+
+// Whether the world that `replay` hands out is led there.
+fn is_handed_out(alloc: Global, led: &Led) -> Result<bool, AllocError> {
+    let mut sink = MemSink::new(alloc, ROOM, Vec::new(alloc))?;
+    match end_of(alloc, "replay", led.0, &mut sink)? {
+        End::World(world) => {
+            let there = is_led(&world, led);
+            drop(world);
+            Ok(there)
+        }
+        other => {
+            drop(other);
+            Ok(false)
+        }
     }
 }
 
@@ -176,6 +219,14 @@ fn lost_messages_change_no_response(rt: HostRuntime) -> Result<(), Fail> {
 fn moves_lead_to_their_hosts(rt: HostRuntime) -> Result<(), Fail> {
     for (i, placed) in PLACES.iter().enumerate() {
         assert!(rt; leads_there(rt.alloc(), placed)?, "place {i}");
+    }
+    Ok(())
+}
+
+#[test]
+fn deliveries_lead_to_their_hosts(rt: HostRuntime) -> Result<(), Fail> {
+    for (i, led) in WORLDS.iter().enumerate() {
+        assert!(rt; is_handed_out(rt.alloc(), led)?, "world {i}");
     }
     Ok(())
 }

@@ -2,7 +2,7 @@
 use Rattle.std.proofs.Common.{◌≡◌, ◌≢◌, ℕ, List, [], ◌++◌, refl, ap, sym, ◌∙◌, Some, inl, inr}
 use Rattle.std.proofs.lemmas.List.{append-nil}
 use Rattle.vt_base.specs.declared.status.Status.{Status}
-use Rattle.vt_base.specs.declared.status.Status.TheVariants.{Ok, Script, WriteFault, Memory, Limit}
+use Rattle.vt_base.specs.declared.status.Status.TheVariants.{Ok, Script, ReadFault, WriteFault, Memory, Limit, Refused}
 use Rattle.tpm_core.specs.Answers.{values_after}
 use Rattle.vt_script.specs.Drive.{drive_of}
 use Rattle.vt_script.specs.declared.drive.DriveLine.{DriveLine}
@@ -10,39 +10,72 @@ use Rattle.vt_seat.specs.State.{WorldState}
 use Rattle.vt_world.specs.Pairs.{running_world}
 use Rattle.vt_world.specs.State.{PairState}
 use Rattle.crb_port.specs.declared.job.Standing.{Standing}
-use Rattle.script_run.specs.Ends.{HandsOut, AreDriveLines, EndOf, HasEnd, end_by}
+use Rattle.crb_history.specs.Base.{Base}
+use Rattle.crb_history.specs.Replies.{Transcript, line_of}
+use Rattle.vt_script.specs.Script.{event_of}
+use Rattle.two_seats.specs.Both.{TwoSeats}
+use Rattle.script_run.specs.Ends.{HandsOut, HandsPair, AreDriveLines, HandsWorld, HandsResumed, EndOf, HasEnd, IsWorld, IsPair, end_by}
+use Rattle.script_run.specs.Saved.{Resumption}
 use Rattle.script_run.specs.Placed.{HaveDriven, placed}
-use Rattle.script_run.specs.Loop.{HasDriven, DrivesAt, EndsHere}
-use Rattle.script_run.specs.Output.{SinkView, Finishes}
+use Rattle.script_run.specs.Loop.{HasDriven, DrivesAt, EndsHere, StandsAt}
+use Rattle.script_run.specs.Output.{SinkView, Finishes, Tells}
 use Rattle.script_run.specs.Run.{in_order, meanings, spelled}
 use Rattle.script_run.specs.Start.{start}
 use Rattle.script_run.specs.declared.action.Action.{Action}
-use Rattle.script_run.specs.declared.action.Action.TheVariants.{Drive}
-use Rattle.script_run.specs.declared.ran.End.{End}
-use Rattle.script_run.specs.declared.ran.End.TheVariants.{Nothing}
+use Rattle.script_run.specs.declared.action.Action.TheVariants.{Replay, Drive, Suspend, Resume, Check}
 use Rattle.script_run.proofs.Guests.{world-of-running, tpm-known}
+use Rattle.script_run.proofs.Prefixes.{done-front, stands-all}
+use Rattle.script_run.specs.declared.ran.End.{End}
+use Rattle.script_run.specs.declared.ran.End.TheVariants.{Nothing, World, Pair}
 
 -- a run that didn't end well hands out nothing
-pub early-out : (AreAll : List DriveLine → Type 0) (status : Status) (pair : PairState Standing) → status ≢ Ok → HandsOut AreAll status (end_by status pair)
-early-out AreAll Ok pair not_ok = absurd (not_ok refl)
-early-out AreAll _ pair not_ok = refl
+pub early-out : (Hands : End → Type 0) (status : Status) (end : End) → status ≢ Ok → HandsOut Hands status (end_by status end)
+early-out Hands Ok end not_ok = absurd (not_ok refl)
+early-out Hands _ end not_ok = refl
 
 -- a run that did all lines hands out its hosts where it ended well
-pub all-out : (AreAll : List DriveLine → Type 0) (status : Status) (lines : List DriveLine) (pair : PairState Standing) → AreAll lines → HaveDriven lines pair → HandsOut AreAll status (end_by status pair)
-all-out AreAll Ok lines pair all have = (lines, pair, all, refl, have)
-all-out AreAll _ lines pair all have = refl
+pub all-out : (Hands : End → Type 0) (status : Status) (end : End) → Hands end → HandsOut Hands status (end_by status end)
+all-out Hands Ok end hands = hands
+all-out Hands _ end hands = refl
+
+-- nothing is handed out where a run didn't end well
+nothing-out : (Hands : End → Type 0) (status : Status) → status ≢ Ok → HandsOut Hands status Nothing
+nothing-out Hands Ok not_ok = absurd (not_ok refl)
+nothing-out Hands _ not_ok = refl
+
+-- less is known of what is handed out
+hands-less : (More Less : End → Type 0) (status : Status) (end : End) → ((e : End) → More e → Less e) → HandsOut More status end → HandsOut Less status end
+hands-less More Less Ok end less hands = less end hands
+hands-less More Less _ end less none = none
 
 -- whatever the input, that is known of what is handed out
 pub end-of-some : (action : Action) (input : List ℕ) (status : Status) (end : End) → EndOf action input status end → HasEnd action status end
-end-of-some Drive input Ok end hands = (hands.1, hands.3)
-end-of-some Drive input _ end none = none
-end-of-some _ input status end none = none
+end-of-some Replay input status end ends = hands-less (HandsWorld start input) IsWorld status end (λ e hands. (hands.world, hands.is)) ends
+end-of-some Resume input status end ends = hands-less (HandsResumed input) IsWorld status end (λ e hands. (hands.hands.world, hands.hands.is)) ends
+end-of-some Drive input status end ends = hands-less (HandsPair (AreDriveLines input)) IsPair status end (λ e hands. (hands.pair, hands.is)) ends
+end-of-some Suspend input status end none = none
+end-of-some Check input status end none = none
 
--- of an input that is too long nothing is handed out
+-- where a run didn't end well nothing is handed out
 pub end-of-none : (action : Action) (status : Status) → status ≢ Ok → HasEnd action status Nothing
-end-of-none Drive Ok not_ok = absurd (not_ok refl)
-end-of-none Drive _ not_ok = refl
-end-of-none _ status not_ok = refl
+end-of-none Replay status not_ok = nothing-out IsWorld status not_ok
+end-of-none Resume status not_ok = nothing-out IsWorld status not_ok
+end-of-none Drive status not_ok = nothing-out IsPair status not_ok
+end-of-none Suspend status not_ok = refl
+end-of-none Check status not_ok = refl
+
+-- an input that can't be read
+pub end-of-fault : (action : Action) → HasEnd action ReadFault Nothing
+end-of-fault action = end-of-none action ReadFault read-fault
+  where
+    read-fault : ReadFault ≡ Ok → ⊥
+    read-fault is = cc
+
+pub end-of-memory : (action : Action) → HasEnd action Memory Nothing
+end-of-memory action = end-of-none action Memory memory
+  where
+    memory : Memory ≡ Ok → ⊥
+    memory is = cc
 
 pub finishes-early : (status result : Status) (text : List ℕ) (a b : SinkView) → status ≢ Ok → Finishes status text result a b → result ≢ Ok
 finishes-early status result text a b early (inl (is, wrote)) ok = early (sym is ∙ ok)
@@ -80,6 +113,33 @@ have-driven lines pair driven =
       tpm = ap (λ (w : WorldState). w.link.desk.tpm) (sym same) ∙ tpm-known start driven.history (running_world pair) driven.waits.rest ∙ ap (λ past. Some (values_after start.tpm past)) driven.past;
     }
 
+pub hands-pair : (AreAll : List DriveLine → Type 0) (lines : List DriveLine) (pair : PairState Standing) → AreAll lines → HasDriven lines pair → HandsPair AreAll (Pair pair)
+hands-pair AreAll lines pair all driven = record { lines = lines; pair = pair; is = refl; all = all; driven = have-driven lines pair driven }
+
 -- all lines of the script are done
 pub all-lines : (script rest : List ℕ) (lines : List DriveLine) (pair : PairState Standing) → DrivesAt script rest lines pair → rest ≡ [] → AreDriveLines script lines
 all-lines script rest lines pair drives end = sym (drives.done ∙ ap (λ (left : List ℕ). in_order spelled lines ++ meanings drive_of left) end ∙ append-nil (in_order spelled lines))
+
+-- ---- a world
+
+-- the world that did all lines is the one that is handed out
+pub hands-world : (b : Base) (script rest : List ℕ) (t : Transcript) (world : TwoSeats) → StandsAt b script rest t world → rest ≡ [] → HandsWorld b script (World world)
+hands-world b script rest t world stands end = record {
+  transcript = t;
+  world = world;
+  is = refl;
+  run = record { lines = done-front event_of line_of script rest t stands.lines; run = stands.runs.run };
+  all = stands-all b script rest t world stands end;
+  follows = stands.runs.follows;
+}
+
+-- what goes on from the front of an input
+pub resumed-hands : (input : List ℕ) (from : Resumption input) (status : Status) (end : End) → HandsOut (HandsWorld from.base from.script) status end → HandsOut (HandsResumed input) status end
+resumed-hands input from Ok end hands = record { from = from; hands = hands }
+resumed-hands input from _ end none = none
+
+-- a refusal hands out nothing
+pub refused-hands : (input : List ℕ) (text : List ℕ) (status : Status) (a b : SinkView) → Tells Refused text status a b → HandsOut (HandsResumed input) status Nothing
+refused-hands input text status a b (inl (is, same)) = rw is refl
+refused-hands input text status a b (inr (inl (is, wrote))) = rw is refl
+refused-hands input text status a b (inr (inr (is, broken))) = rw is refl

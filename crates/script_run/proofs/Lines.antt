@@ -9,7 +9,7 @@ use Rattle.vt_script.specs.Replies.{reply_text}
 use Rattle.vt_script.specs.declared.drive.DriveLine.{DriveLine}
 use Rattle.crb_history.specs.Base.{Base}
 use Rattle.crb_history.specs.Replies.{Transcript, exchange}
-use Rattle.vt_seat.specs.State.{WorldState}
+use Rattle.two_seats.specs.Both.{TwoSeats}
 use Rattle.vt_world.specs.State.{PairState}
 use Rattle.script_run.specs.Driven.{driven}
 use Rattle.script_run.specs.Placed.{placed}
@@ -20,7 +20,7 @@ use Rattle.script_run.specs.Loop.{StandsAt, DrivesAt, HasWritten, Replied, Respo
 use Rattle.script_run.proofs.Prefixes.{stands-more, stands-gives, stands-bad, driven-more, drives-more, drives-gives, drives-bad}
 use Rattle.script_run.proofs.Endings.{leaves-bad, leaves-memory, leaves-unflushed, pends-more}
 
-pub follow-ends : (b : Base) (script rest : List ℕ) (t : Transcript) (old : WorldState) (text after : List ℕ) (new : WorldState) (number : ℕ) (pending : List ℕ) (first before now : SinkView) (status : Status)
+pub follow-ends : (b : Base) (script rest : List ℕ) (t : Transcript) (old : TwoSeats) (text after : List ℕ) (new : TwoSeats) (number : ℕ) (pending : List ℕ) (first before now : SinkView) (status : Status)
     → IsShort script → StandsAt b script rest t old → HasWritten first before pending (texts t) → lines_of rest ≡ text ∷ lines_of after → number ≡ length t + 1
     → EndsHere (event_of text ≡ None) (λ all. Replied b t text pending all new) number pending status before now → Leaves status (followed b script) first now
 follow-ends b script rest t old text after new number pending first before now status short stands w cut count (inl (bad, told)) =

@@ -16,14 +16,15 @@ use Rattle.script_run.specs.Calls.{IsWaiting, Responds}
 use Rattle.script_run.specs.Driven.{driven as driven_text, past_of, past_with, written_for}
 use Rattle.script_run.specs.Placed.{pieces_of_move, placed_by, placed}
 use Rattle.crb_history.specs.Replies.{exchange}
-use Rattle.vt_seat.specs.Follows.{Follows, Steps}
-use Rattle.vt_seat.specs.State.{WorldState}
+use Rattle.vt_seat.specs.Follows.{Follows}
+use Rattle.two_hosts.specs.Hosts.{hosts_after}
+use Rattle.two_seats.specs.Both.{TwoSeats, StepsBoth, RunsTo}
 use Rattle.vt_world.specs.Pairs.{running_world}
 use Rattle.vt_world.specs.State.{PairState}
 use Rattle.vt_world.specs.Placement.{first_placement}
 use Rattle.vt_world.specs.Movable.{IsMovable}
 use Rattle.crb_port.specs.declared.job.Standing.{Standing}
-use Rattle.script_run.specs.Start.{start}
+use Rattle.script_run.specs.Start.{start, piece}
 use Rattle.script_run.specs.Run.{meanings, in_order, spelled, texts, followed, driven_by}
 use Rattle.script_run.specs.Loop.{AreDone, StandsAt, HasDriven, DrivesAt}
 
@@ -63,25 +64,25 @@ module _ {A L : Type 0} (grammar : List ℕ → Option L) (line : A → Option L
   done-bad text after cut bad =
       rw (done, cut, get-behind (in_order line t) (meanings grammar after) (grammar text) (length t) (sym (length-in_order line t))) (ap Some bad)
 
-pub stands-start : (b : Base) (script : List ℕ) (world : WorldState) → Follows b [] world → StandsAt b script script [] world
-stands-start b script world follows = record { lines = refl; run = record { legal = tt; in_turn = tt }; follows = follows }
+pub stands-start : (b : Base) (script : List ℕ) (world : TwoSeats) → RunsTo b piece [] world → StandsAt b script script [] world
+stands-start b script world runs = record { lines = refl; runs = runs }
 
 -- one more line of a replay
-pub stands-more : (b : Base) (script rest : List ℕ) (t : Transcript) (old new : WorldState) (text after : List ℕ) (line : Line) (reply : Reply) → StandsAt b script rest t old → lines_of rest ≡ text ∷ lines_of after → event_of text ≡ Some line → Steps b t line reply new → StandsAt b script after (exchange line reply ∷ t) new
+pub stands-more : (b : Base) (script rest : List ℕ) (t : Transcript) (old new : TwoSeats) (text after : List ℕ) (line : Line) (reply : Reply) → StandsAt b script rest t old → lines_of rest ≡ text ∷ lines_of after → event_of text ≡ Some line
+    → StepsBoth b piece (hosts_after b piece t) line reply new → StandsAt b script after (exchange line reply ∷ t) new
 stands-more b script rest t old new text after line reply stands cut is steps = record {
   lines = done-more event_of line_of script rest t stands.lines (exchange line reply) text after cut is;
-  run = record { legal = steps.legal stands.run.legal; in_turn = (stands.run.in_turn, steps.answers) };
-  follows = steps.follows;
+  runs = record { run = record { legal = steps.legal stands.runs.run.legal; in_turn = (stands.runs.run.in_turn, steps.answers) }; follows = steps.follows };
 }
 
 -- what the lines so far give
-pub stands-gives : (b : Base) (script rest : List ℕ) (t : Transcript) (world : WorldState) → StandsAt b script rest t world → (followed b script).Gives (length t) (texts t)
-stands-gives b script rest t world stands = (t, record { lines = done-front event_of line_of script rest t stands.lines; run = stands.run }, refl, refl)
+pub stands-gives : (b : Base) (script rest : List ℕ) (t : Transcript) (world : TwoSeats) → StandsAt b script rest t world → (followed b script).Gives (length t) (texts t)
+stands-gives b script rest t world stands = (t, record { lines = done-front event_of line_of script rest t stands.lines; run = stands.runs.run }, refl, refl)
 
-pub stands-all : (b : Base) (script rest : List ℕ) (t : Transcript) (world : WorldState) → StandsAt b script rest t world → rest ≡ [] → length t ≡ length (lines_of script)
+pub stands-all : (b : Base) (script rest : List ℕ) (t : Transcript) (world : TwoSeats) → StandsAt b script rest t world → rest ≡ [] → length t ≡ length (lines_of script)
 stands-all b script rest t world stands end = done-all event_of line_of script rest t stands.lines end
 
-pub stands-bad : (b : Base) (script rest : List ℕ) (t : Transcript) (world : WorldState) (text after : List ℕ) → StandsAt b script rest t world → lines_of rest ≡ text ∷ lines_of after → event_of text ≡ None → (followed b script).IsBad (length t)
+pub stands-bad : (b : Base) (script rest : List ℕ) (t : Transcript) (world : TwoSeats) (text after : List ℕ) → StandsAt b script rest t world → lines_of rest ≡ text ∷ lines_of after → event_of text ≡ None → (followed b script).IsBad (length t)
 stands-bad b script rest t world text after stands cut bad = done-bad event_of line_of script rest t stands.lines text after cut bad
 
 pub driven-start : (pair : PairState Standing) → Follows start [] (running_world pair) → IsMovable 4096 first_placement pair → HasDriven [] pair

@@ -1,22 +1,26 @@
 -- The lines of a script are done, and then the host is saved.
-use Rattle.std.proofs.Common.{◌≡◌, ℕ, true, List, [], ◌∷◌, ◌++◌, length, map, refl, ap, sym, subst, ◌∙◌, Some, None, inl, inr}
-use Rattle.std.specs.Prelude.{◌≢◌, Option, option_and_then}
+use Rattle.std.proofs.Common.{◌≡◌, ℕ, true, false, List, [], ◌∷◌, ◌++◌, length, map, refl, ap, sym, subst, ◌∙◌, Some, None, inl, inr}
+use Rattle.std.specs.Prelude.{◌≢◌, Bool, if◌then◌else◌, Option, option_and_then}
 use Rattle.vt_base.specs.declared.status.Status.{Status}
 use Rattle.vt_base.specs.declared.status.Status.TheVariants.{Ok, NotYet}
 use Rattle.crb_regs.specs.declared.phase.Phase.TheVariants.{Idle, Lost}
 use Rattle.vt_script.specs.declared.event.Event.{Event as Line}
-use Rattle.vt_script.specs.declared.event.Event.TheVariants.{Access, Work, Ask, Reset, Fail}
+use Rattle.vt_script.specs.declared.event.Event.TheVariants.{Access, Work, Ask, Reset, Offer, Deliver, GiveUp, Again, Show, Fail}
 use Rattle.vt_script.specs.declared.reply.Reply.{Reply}
 use Rattle.vt_script.specs.Script.{lines_of, event_of}
 use Rattle.crb_history.specs.Base.{Base}
 use Rattle.crb_history.specs.Device.{phase_of}
 use Rattle.crb_history.specs.Plain.{is_plain, ArePlain, plain, plain_history}
 use Rattle.crb_history.specs.Replies.{Transcript, exchange, line_of, history, order_of, IsRun}
+use Rattle.move_codec.specs.declared.names.HostName.TheVariants.{A, B}
+use Rattle.move_core.specs.Sides.{is_running}
+use Rattle.two_hosts.specs.Hosts.{first_hosts}
+use Rattle.two_seats.specs.Both.{TwoSeats, FollowsBoth, running_of}
 use Rattle.vt_seat.specs.Follows.{Follows, Steps}
-use Rattle.vt_seat.specs.State.{WorldState}
+use Rattle.vt_seat.specs.Seats.{world_of}
 use Rattle.vt_world.specs.Saving.{CanSave, Saves}
 use Rattle.vt_seat.specs.declared.saving.Saved.TheVariants as saved
-use Rattle.script_run.specs.Start.{start}
+use Rattle.script_run.specs.Start.{start, piece}
 use Rattle.script_run.specs.Output.{SinkView, Finishes, Tells}
 use Rattle.script_run.specs.Run.{IsShort, Leaves, in_order, meanings}
 use Rattle.script_run.specs.Saved.{plain_line, plain_event_of, AreLines, SuspendsAt, suspended, not_yet_text}
@@ -25,8 +29,14 @@ use Rattle.std.proofs.lemmas.List.{append-nil}
 use Rattle.script_run.proofs.Endings.{leaves-nothing, leaves-end, leaves-told}
 use Rattle.script_run.proofs.Prefixes.{done-front, done-more, done-bad}
 
-pub suspends-start : (script : List ℕ) (world : WorldState) → Follows start [] world → SuspendsOn script script [] [] world
-suspends-start script world follows = record { done = refl; plain = tt; same = refl; run = record { legal = tt; in_turn = tt }; follows = follows }
+-- host A at the beginning
+runs_first : (b : Base) (world : TwoSeats) → FollowsBoth b piece (first_hosts b) world → (Follows b [] (world_of world.a)) × (running_of world ≡ Some A)
+runs_first b world f = (record { fit = f.fit; stands = (f.seats A).stands; due = (f.seats A).due }, rw (f.seats A).stage_is refl)
+
+pub suspends-start : (script : List ℕ) (world : TwoSeats) → FollowsBoth start piece (first_hosts start) world → SuspendsOn script script [] [] world
+suspends-start script world f =
+    let first = runs_first start world f in
+    record { done = refl; plain = tt; same = refl; run = record { legal = tt; in_turn = tt }; follows = first.0; here = first.1 }
 
 line_is : (x line : Line) → Some x ≡ Some line → x ≡ line
 line_is x line same = cc
@@ -38,30 +48,36 @@ plain_by (Some (Access access)) line is = rw (← line_is (Access access) line i
 plain_by (Some Work) line is = rw (← line_is Work line is) refl
 plain_by (Some Ask) line is = rw (← line_is Ask line is) refl
 plain_by (Some Reset) line is = rw (← line_is Reset line is) refl
+plain_by (Some Offer) line is = cc
+plain_by (Some (Deliver message)) line is = cc
+plain_by (Some GiveUp) line is = cc
+plain_by (Some Again) line is = cc
+plain_by (Some (Show message)) line is = cc
 plain_by (Some (Fail host call)) line is = cc
 
 -- one more line
-pub suspends-more : (script rest : List ℕ) (lines : List Line) (t : Transcript) (old new : WorldState) (text after : List ℕ) (line : Line) (reply : Reply) → SuspendsOn script rest lines t old
-    → lines_of rest ≡ text ∷ lines_of after → plain_event_of text ≡ Some line → Steps start t line reply new → SuspendsOn script after (line ∷ lines) (exchange line reply ∷ t) new
-suspends-more script rest lines t old new text after line reply on cut is steps = record {
+pub suspends-more : (script rest : List ℕ) (lines : List Line) (t : Transcript) (old new : TwoSeats) (text after : List ℕ) (line : Line) (reply : Reply) → SuspendsOn script rest lines t old
+    → lines_of rest ≡ text ∷ lines_of after → plain_event_of text ≡ Some line → Steps start t line reply (world_of new.a) → running_of new ≡ running_of old → SuspendsOn script after (line ∷ lines) (exchange line reply ∷ t) new
+suspends-more script rest lines t old new text after line reply on cut is steps stays = record {
   done = done-more plain_event_of Some script rest lines on.done line text after cut is;
   plain = (on.plain, plain_by (event_of text) line is);
   same = ap (λ rest. Some line ∷ rest) on.same;
   run = record { legal = steps.legal on.run.legal; in_turn = (on.run.in_turn, steps.answers) };
   follows = steps.follows;
+  here = stays ∙ on.here;
 }
 
 -- the lines so far give nothing
-pub suspends-gives : (script rest : List ℕ) (lines : List Line) (t : Transcript) (world : WorldState) → SuspendsOn script rest lines t world → (suspended script).Gives (length lines) []
+pub suspends-gives : (script rest : List ℕ) (lines : List Line) (t : Transcript) (world : TwoSeats) → SuspendsOn script rest lines t world → (suspended script).Gives (length lines) []
 suspends-gives script rest lines t world on = (lines, done-front plain_event_of Some script rest lines on.done, refl, refl)
 
 -- the first line that isn't in the grammar
-pub suspends-bad : (script rest : List ℕ) (lines : List Line) (t : Transcript) (world : WorldState) (text after : List ℕ) → SuspendsOn script rest lines t world → lines_of rest ≡ text ∷ lines_of after → plain_event_of text ≡ None
+pub suspends-bad : (script rest : List ℕ) (lines : List Line) (t : Transcript) (world : TwoSeats) (text after : List ℕ) → SuspendsOn script rest lines t world → lines_of rest ≡ text ∷ lines_of after → plain_event_of text ≡ None
     → (suspended script).IsBad (length lines)
 suspends-bad script rest lines t world text after on cut bad = done-bad plain_event_of Some script rest lines on.done text after cut bad
 
 -- all lines are done
-pub suspends-all : (script rest : List ℕ) (lines : List Line) (t : Transcript) (world : WorldState) → SuspendsOn script rest lines t world → rest ≡ [] → AreLines script lines
+pub suspends-all : (script rest : List ℕ) (lines : List Line) (t : Transcript) (world : TwoSeats) → SuspendsOn script rest lines t world → rest ≡ [] → AreLines script lines
 suspends-all script rest lines t world on end =
     on.done ∙ ap (λ (left : List ℕ). in_order Some lines ++ meanings plain_event_of left) end ∙ append-nil (in_order Some lines)
 
@@ -69,11 +85,11 @@ idle_works : Idle ≡ Lost → ⊥
 idle_works is = cc
 
 -- the host can be saved
-pub can_save : (script rest : List ℕ) (lines : List Line) (t : Transcript) (world : WorldState) → SuspendsOn script rest lines t world
+pub can_save : (script rest : List ℕ) (lines : List Line) (t : Transcript) (world : TwoSeats) → SuspendsOn script rest lines t world
     → ((b : Base) (ls : List Line) (u : Transcript) → ArePlain ls → map line_of u ≡ map Some ls → IsRun b u → u ≡ plain b ls)
     → ((b : Base) (ls : List Line) → ArePlain ls → order_of (plain b ls) ≡ None)
     → ((b : Base) (ls : List Line) → ArePlain ls → b.device.phase ≢ Lost → phase_of b (plain_history b ls) ≢ Lost)
-    → CanSave start t world
+    → CanSave start t (world_of world.a)
 unfolding start
 can_save script rest lines t world on one unordered working =
     let same : t ≡ plain start lines = one start lines t on.plain on.same on.run in
@@ -83,22 +99,31 @@ can_save script rest lines t world on one unordered working =
       working = λ lost. working start lines on.plain idle_works (ap (λ (u : Transcript). phase_of start (history start u)) (sym same) ∙ lost);
     }
 
+first_runs : (a b : Bool) → (if a then Some A else (if b then Some B else None)) ≡ Some A → a ≡ true
+first_runs true b is = refl
+first_runs false true is = cc
+first_runs false false is = cc
+
+-- the guest that was at A first is there still
+pub runs_at_a : (world : TwoSeats) → running_of world ≡ Some A → is_running world.a.host.stage ≡ true
+runs_at_a world is = first_runs (is_running world.a.host.stage) (is_running world.b.host.stage) is
+
 -- what is written then
-pub suspends-whole : (script rest : List ℕ) (lines : List Line) (t : Transcript) (world : WorldState) (stream : List ℕ) (result : Status) (a b : SinkView) → SuspendsOn script rest lines t world → rest ≡ []
+pub suspends-whole : (script rest : List ℕ) (lines : List Line) (t : Transcript) (world : TwoSeats) (stream : List ℕ) (result : Status) (a b : SinkView) → SuspendsOn script rest lines t world → rest ≡ []
     → t ≡ plain start lines → IsShort script → Saves start t saved.Whole [] stream → Finishes Ok (stream ++ []) result a b → Leaves result (suspended script) a b
 suspends-whole script rest lines t world stream result a b on end one short saves finishes =
     let ends : (suspended script).Ends Ok stream =
     (lines, suspends-all script rest lines t world on end, subst (λ (u : Transcript). SuspendsAt (history start u) Ok stream) one (saves.may, saves.appended)) in
     leaves-end (suspended script) Ok result a b stream tt short ends (subst (λ (text : List ℕ). Finishes Ok text result a b) (append-nil stream) finishes)
 
-pub suspends-early : (script rest : List ℕ) (lines : List Line) (t : Transcript) (world : WorldState) (number : ℕ) (stream : List ℕ) (result : Status) (a b : SinkView) → SuspendsOn script rest lines t world → rest ≡ []
+pub suspends-early : (script rest : List ℕ) (lines : List Line) (t : Transcript) (world : TwoSeats) (number : ℕ) (stream : List ℕ) (result : Status) (a b : SinkView) → SuspendsOn script rest lines t world → rest ≡ []
     → t ≡ plain start lines → IsShort script → Saves start t (saved.NotYet number) [] stream → Tells NotYet (not_yet_text number) result a b → Leaves result (suspended script) a b
 suspends-early script rest lines t world number stream result a b on end one short saves told =
     let ends : (suspended script).Ends NotYet (not_yet_text number) =
     (lines, suspends-all script rest lines t world on end, subst (λ (u : Transcript). SuspendsAt (history start u) NotYet (not_yet_text number)) one (saves.0, ap not_yet_text saves.1)) in
     leaves-told (suspended script) NotYet result a b (not_yet_text number) tt short ends told
 
-pub suspends-saved : (script rest : List ℕ) (lines : List Line) (t : Transcript) (world : WorldState) (result : Status) (a b : SinkView) → SuspendsOn script rest lines t world → rest ≡ []
+pub suspends-saved : (script rest : List ℕ) (lines : List Line) (t : Transcript) (world : TwoSeats) (result : Status) (a b : SinkView) → SuspendsOn script rest lines t world → rest ≡ []
     → t ≡ plain start lines → IsShort script → WritesSaved start t result a b → Leaves result (suspended script) a b
 suspends-saved script rest lines t world result a b on end one short (inl (stream, saves, finishes)) = suspends-whole script rest lines t world stream result a b on end one short saves finishes
 suspends-saved script rest lines t world result a b on end one short (inr (inl (number, stream, saves, told))) = suspends-early script rest lines t world number stream result a b on end one short saves told

@@ -1,28 +1,58 @@
 -- What a run hands out. (Own definitions.)
-use Rattle.std.specs.Prelude.{◌≡◌, ℕ, List}
+use Rattle.std.specs.Prelude.{◌≡◌, ℕ, List, length}
 use Rattle.vt_base.specs.declared.status.Status.{Status}
 use Rattle.vt_base.specs.declared.status.Status.TheVariants.{Ok}
 use Rattle.vt_script.specs.Drive.{drive_of}
 use Rattle.vt_script.specs.declared.drive.DriveLine.{DriveLine}
 use Rattle.bulk_lines.specs.Generator.{bulk_lines}
 use Rattle.crb_port.specs.declared.job.Standing.{Standing}
+use Rattle.crb_history.specs.Base.{Base}
+use Rattle.crb_history.specs.Replies.{Transcript}
+use Rattle.two_hosts.specs.Hosts.{hosts_after}
+use Rattle.two_seats.specs.Both.{TwoSeats, FollowsBoth}
+use Rattle.vt_script.specs.Script.{lines_of}
 use Rattle.vt_world.specs.State.{PairState}
 use Rattle.script_run.specs.Placed.{HaveDriven}
-use Rattle.script_run.specs.Run.{meanings, in_order, spelled, latest_first}
+use Rattle.script_run.specs.Run.{IsRunOf, meanings, in_order, spelled, latest_first}
+use Rattle.script_run.specs.Saved.{Resumption}
+use Rattle.script_run.specs.Start.{start, piece}
 use Rattle.script_run.specs.declared.action.Action.{Action}
-use Rattle.script_run.specs.declared.action.Action.TheVariants.{Drive}
+use Rattle.script_run.specs.declared.action.Action.TheVariants.{Replay, Drive, Suspend, Resume, Check}
 use Rattle.script_run.specs.declared.ran.End.{End}
-use Rattle.script_run.specs.declared.ran.End.TheVariants.{Nothing, Pair}
+use Rattle.script_run.specs.declared.ran.End.TheVariants.{Nothing, World, Pair}
 
--- hosts are handed out where a run ended well, and else nothing
-abbrev pub end_by : Status → PairState Standing → End
-end_by Ok pair = Pair pair
-end_by _ pair = Nothing
+-- this is handed out where a run ended well, and else nothing
+abbrev pub end_by : Status → End → End
+end_by Ok end = end
+end_by _ end = Nothing
 
--- where all lines are done, the two hosts that did them are handed out, and else nothing
-abbrev pub HandsOut : (List DriveLine → Type 0) → Status → End → Type 0
-HandsOut AreAll Ok end = (lines : List DriveLine) × (pair : PairState Standing) × AreAll lines × (end ≡ Pair pair) × HaveDriven lines pair
-HandsOut AreAll _ end = end ≡ Nothing
+-- where a run ends well it hands out hosts of which this is so, and else nothing
+abbrev pub HandsOut : (End → Type 0) → Status → End → Type 0
+HandsOut Hands Ok end = Hands end
+HandsOut Hands _ end = end ≡ Nothing
+
+-- the two hosts that did all drive lines
+pub record HandsPair (AreAll : List DriveLine → Type 0) (end : End) : Type 0 where
+  pub lines : List DriveLine
+  pub pair : PairState Standing
+  pub is : end ≡ Pair pair
+  pub all : AreAll lines
+  pub driven : HaveDriven lines pair
+
+-- The world that did all lines of a script from these values on: each of its two hosts and the messages between them are where the
+-- one run of these lines leads.
+pub record HandsWorld (b : Base) (script : List ℕ) (end : End) : Type 0 where
+  pub transcript : Transcript
+  pub world : TwoSeats
+  pub is : end ≡ World world
+  pub run : IsRunOf b script transcript
+  pub all : length transcript ≡ length (lines_of script)
+  pub follows : FollowsBoth b piece (hosts_after b piece transcript) world
+
+-- the world of a run that goes on from a saved stream
+pub record HandsResumed (input : List ℕ) (end : End) : Type 0 where
+  pub from : Resumption input
+  pub hands : HandsWorld from.base from.script end
 
 -- these are all lines of a script, the latest first
 abbrev pub AreDriveLines : List ℕ → List DriveLine → Type 0
@@ -30,19 +60,26 @@ AreDriveLines script lines = in_order spelled lines ≡ meanings drive_of script
 
 -- what an action hands out
 abbrev pub EndOf : Action → List ℕ → Status → End → Type 0
-EndOf Drive input status end = HandsOut (AreDriveLines input) status end
-EndOf _ input status end = end ≡ Nothing
+EndOf Replay input status end = HandsOut (HandsWorld start input) status end
+EndOf Resume input status end = HandsOut (HandsResumed input) status end
+EndOf Drive input status end = HandsOut (HandsPair (AreDriveLines input)) status end
+EndOf Suspend input status end = end ≡ Nothing
+EndOf Check input status end = end ≡ Nothing
 
--- hosts are handed out exactly where the run ended well
-abbrev pub HasHostsOnOk : Status → End → Type 0
-HasHostsOnOk Ok end = (pair : PairState Standing) × (end ≡ Pair pair)
-HasHostsOnOk _ end = end ≡ Nothing
+abbrev pub IsWorld : End → Type 0
+IsWorld end = (world : TwoSeats) × (end ≡ World world)
 
--- the same of an action, of whatever input: `drive` alone has hosts to hand out
+abbrev pub IsPair : End → Type 0
+IsPair end = (pair : PairState Standing) × (end ≡ Pair pair)
+
+-- whatever the input, an action hands out hosts exactly where it ends well, and of its own kind
 abbrev pub HasEnd : Action → Status → End → Type 0
-HasEnd Drive status end = HasHostsOnOk status end
-HasEnd _ status end = end ≡ Nothing
+HasEnd Replay status end = HandsOut IsWorld status end
+HasEnd Resume status end = HandsOut IsWorld status end
+HasEnd Drive status end = HandsOut IsPair status end
+HasEnd Suspend status end = end ≡ Nothing
+HasEnd Check status end = end ≡ Nothing
 
 -- what `bulk` hands out
 abbrev pub BulkEnd : ℕ → ℕ → Status → End → Type 0
-BulkEnd seed count status end = HandsOut (λ lines. lines ≡ latest_first (bulk_lines seed count)) status end
+BulkEnd seed count status end = HandsOut (HandsPair (λ lines. lines ≡ latest_first (bulk_lines seed count))) status end

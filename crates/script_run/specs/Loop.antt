@@ -3,6 +3,7 @@ use Rattle.std.specs.Prelude.{◌≡◌, ◌⊎◌, ℕ, List, [], ◌++◌, map
 use Rattle.vt_base.specs.declared.status.Status.{Status}
 use Rattle.vt_base.specs.declared.status.Status.TheVariants.{Ok, Memory, NotYet, WriteFault}
 use Rattle.crb_port.specs.declared.job.Standing.{Standing}
+use Rattle.move_codec.specs.declared.names.HostName.TheVariants.{A}
 use Rattle.crb_history.specs.Device.{executed}
 use Rattle.crb_history.specs.Event.{History}
 use Rattle.crb_history.specs.Base.{Base}
@@ -18,11 +19,13 @@ use Rattle.script_run.specs.Saved.{plain_event_of, not_yet_text}
 use Rattle.script_run.specs.Calls.{IsWaiting, Responds}
 use Rattle.script_run.specs.Driven.{past_of}
 use Rattle.script_run.specs.Placed.{placed}
-use Rattle.script_run.specs.Start.{start}
-use Rattle.vt_seat.specs.Follows.{Follows, Steps}
-use Rattle.vt_seat.specs.State.{WorldState}
+use Rattle.script_run.specs.Start.{start, piece}
+use Rattle.vt_seat.specs.Follows.{Follows}
+use Rattle.vt_seat.specs.Seats.{world_of}
 use Rattle.vt_world.specs.State.{PairState}
 use Rattle.vt_world.specs.Placement.{Placement}
+use Rattle.two_hosts.specs.Hosts.{hosts_after}
+use Rattle.two_seats.specs.Both.{TwoSeats, StepsBoth, RunsTo, running_of}
 use Rattle.vt_world.specs.Saving.{Saves}
 use Rattle.vt_seat.specs.declared.saving.Saved.TheVariants as saved
 use Rattle.script_run.specs.Output.{SinkView, Wrote, Breaks, Finishes, Flushes, Tells, TellsBadLine}
@@ -32,11 +35,10 @@ use Rattle.script_run.specs.Run.{meanings, in_order, spelled}
 abbrev pub AreDone : {L : Type 0} → (List ℕ → Option L) → List ℕ → List ℕ → List (Option L) → Type 0
 AreDone grammar script rest done = meanings grammar script ≡ done ++ meanings grammar rest
 
--- the lines of the transcript are done, and the world follows the history
-pub record StandsAt (b : Base) (script rest : List ℕ) (t : Transcript) (world : WorldState) : Type 0 where
+-- the lines of the transcript are done, and they lead the world here
+pub record StandsAt (b : Base) (script rest : List ℕ) (t : Transcript) (world : TwoSeats) : Type 0 where
   pub lines : AreDone event_of script rest (in_order line_of t)
-  pub run : IsRun b t
-  pub follows : Follows b t world
+  pub runs : RunsTo b piece t world
 
 -- the commands of these lines were executed and their moves were made, and the guest waits for the next line
 pub record HasDriven (lines : List DriveLine) (pair : PairState Standing) : Type 0 where
@@ -55,22 +57,23 @@ pub record HasWritten (old now : SinkView) (pending output : List ℕ) : Type 0 
   pub wrote : Wrote old now written
   pub parts : written ++ pending ≡ output
 
--- these lines are done, none of which lets a call fail, and the world follows the history
-pub record SuspendsOn (script rest : List ℕ) (lines : List Line) (t : Transcript) (world : WorldState) : Type 0 where
+-- these lines are done, which are the guest's alone, and host A is where its history leads
+pub record SuspendsOn (script rest : List ℕ) (lines : List Line) (t : Transcript) (world : TwoSeats) : Type 0 where
   pub done : AreDone plain_event_of script rest (in_order Some lines)
   pub plain : ArePlain lines
   pub same : map line_of t ≡ map Some lines
   pub run : IsRun start t
-  pub follows : Follows start t world
+  pub follows : Follows start t (world_of world.a)
+  pub here : running_of world ≡ Some A
 
 -- ---- one line
 
 -- a line of a replay was done, and its reply is pending behind what was
-pub record Replied (b : Base) (t : Transcript) (text pending now : List ℕ) (new : WorldState) : Type 0 where
+pub record Replied (b : Base) (t : Transcript) (text pending now : List ℕ) (new : TwoSeats) : Type 0 where
   pub line : Line
   pub reply : Reply
   pub said : event_of text ≡ Some line
-  pub steps : Steps b t line reply new
+  pub steps : StepsBoth b piece (hosts_after b piece t) line reply new
   pub appended : now ≡ pending ++ reply_text reply
 
 -- a drive line was done, and what is written for it is pending behind what was

@@ -9,10 +9,11 @@ use Rattle.vt_script.specs.Replies.{reply_text, numbered}
 use Rattle.vt_script.specs.Drive.{drive_of}
 use Rattle.vt_script.specs.declared.drive.DriveLine.{DriveLine}
 use Rattle.crb_history.specs.Base.{Base}
-use Rattle.crb_history.specs.Replies.{Transcript, IsRun, line_of}
+use Rattle.crb_history.specs.Replies.{Transcript, line_of}
+use Rattle.two_hosts.specs.Replies.{IsRun}
 use Rattle.script_run.specs.Driven.{driven}
 use Rattle.script_run.specs.Output.{SinkView, Wrote, Breaks}
-use Rattle.script_run.specs.Start.{start}
+use Rattle.script_run.specs.Start.{start, piece}
 
 -- what the lines of a script say in a grammar
 abbrev pub meanings : {L : Type 0} → (List ℕ → Option L) → List ℕ → List (Option L)
@@ -37,10 +38,10 @@ abbrev pub texts : Transcript → List ℕ
 texts [] = []
 texts (x ∷ t) = texts t ++ reply_text x.reply
 
--- a run from these values over as many first lines of the script
+-- a run from these values, between two hosts, over as many first lines of the script
 pub record IsRunOf (b : Base) (script : List ℕ) (t : Transcript) : Type 0 where
   pub lines : in_order line_of t ≡ take (length t) (meanings event_of script)
-  pub run : IsRun b t
+  pub run : IsRun b piece t
 
 -- An input as a command reads it: the first n lines may give an output, line n may not be in the grammar, and at the end
 -- of the input a status may come with an output.
@@ -54,7 +55,7 @@ pub record Reading : Type 1 where
 abbrev pub GivesAll : (ℕ → List ℕ → Type 0) → List ℕ → Status → List ℕ → Type 0
 GivesAll Gives script status output = (status ≡ Ok) × Gives (length (lines_of script)) output
 
--- as a script that goes on from these values: replies of one device over one TPM
+-- as a script that goes on from these values: replies of one device over one TPM, between two hosts
 abbrev pub RepliesTo : Base → List ℕ → ℕ → List ℕ → Type 0
 RepliesTo b script n output = (t : Transcript) × IsRunOf b script t × (length t ≡ n) × (output ≡ texts t)
 

@@ -10,7 +10,7 @@ use Rattle.vt_base.specs.declared.words.Why.TheVariants.{Magic, Version, Length,
 use Rattle.vt_script.specs.Replies.{numbered}
 use Rattle.vt_script.specs.Script.{event_of}
 use Rattle.vt_script.specs.declared.event.Event.{Event as Line}
-use Rattle.vt_script.specs.declared.event.Event.TheVariants.{Access, Work, Ask, Reset, Fail}
+use Rattle.vt_script.specs.declared.event.Event.TheVariants.{Access, Work, Ask, Reset, Offer, Deliver, GiveUp, Again, Show, Fail}
 use Rattle.crb_history.specs.Base.{Base}
 use Rattle.crb_history.specs.Event.{History}
 use Rattle.crb_history.specs.Device.{number_of}
@@ -47,12 +47,17 @@ not_yet_text number = numbered (codes "not yet ") number
 
 -- ---- suspend
 
--- the lines of a suspension: a host on which a call is to fail isn't saved
+-- the lines of a suspension: a host on which a call is to fail isn't saved, nor one that takes part in a move
 abbrev pub plain_line : Line → Option Line
 plain_line (Access access) = Some (Access access)
 plain_line Work = Some Work
 plain_line Ask = Some Ask
 plain_line Reset = Some Reset
+plain_line Offer = None
+plain_line (Deliver message) = None
+plain_line GiveUp = None
+plain_line Again = None
+plain_line (Show message) = None
 plain_line (Fail host call) = None
 
 abbrev pub plain_event_of : List ℕ → Option Line

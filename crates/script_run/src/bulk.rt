@@ -35,10 +35,10 @@ pub fn bulk<K: Sink>(alloc: Global, seed: u64, count: u32, sink: &mut K) -> Ran
     let mut text = Vec::new(alloc);
     let summed = sum_up(alloc, BulkLines::new(seed, count), &mut pair, &mut text);
     let Ok(()) = summed else {
-        return Ran::on_hosts(Status::Memory, pair);
+        return Ran::on_hosts(Status::Memory, End::Pair(pair));
     };
     let status = write_and_end(sink, &[], &text, Status::Ok);
-    Ran::on_hosts(status, pair)
+    Ran::on_hosts(status, End::Pair(pair))
 }
 
 // Does the lines, and appends the text of their summary.

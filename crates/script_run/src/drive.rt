@@ -10,7 +10,7 @@ ghost use Rattle.vt_world.specs.Pairs.{IsRunning, running_world};
 ghost use Rattle.vt_world.specs.Placement.{Placement, moved};
 ghost use Rattle.vt_world.specs.Movable.{IsMovable};
 ghost use Rattle.script_run.specs.Calls.{Calls, CanRespond, IsAtRest, IsWaiting, Responds};
-ghost use Rattle.script_run.specs.Ends.{HandsOut, AreDriveLines};
+ghost use Rattle.script_run.specs.Ends.{HandsOut, HandsPair, AreDriveLines};
 ghost use Rattle.script_run.specs.Loop.{Responded, GoesOn, EndsHere};
 ghost use Rattle.script_run.specs.Output.{seen};
 ghost use Rattle.script_run.specs.Placed.{pieces_of_move};
@@ -38,7 +38,7 @@ pub fn drive<K: Sink>(alloc: Global, script: &[u8], sink: &mut K) -> Ran
     requires { IsShort script.now }
     ensures writes { Leaves result.status (driven_by script.now) (seen (K.written sink.old) (K.room sink.old) (K.faults sink.old))
         (seen (K.written sink.new) (K.room sink.new) (K.faults sink.new)) }
-    ensures hands_out { HandsOut (AreDriveLines script.now) result.status result.end }
+    ensures hands_out { HandsOut (HandsPair (AreDriveLines script.now)) result.status result.end }
 {
     let Ok(mut pair) = start_pair(alloc) else {
         return Ran {
@@ -51,11 +51,11 @@ pub fn drive<K: Sink>(alloc: Global, script: &[u8], sink: &mut K) -> Ran
     while let Some(text) = lines.next() {
         let end = drive_line(alloc, lines.number(), text, &mut pair, &mut pending, sink);
         if let Some(status) = end {
-            return Ran::on_hosts(status, pair);
+            return Ran::on_hosts(status, End::Pair(pair));
         }
     }
     let status = write_and_end(sink, &pending, &[], Status::Ok);
-    Ran::on_hosts(status, pair)
+    Ran::on_hosts(status, End::Pair(pair))
 }
 
 // Does a line, and appends its response to the pending bytes. It gives the status of a run that ends with this line.

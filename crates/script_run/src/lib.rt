@@ -1,9 +1,10 @@
 //! Scripts that are run on hosts: the library behind the program `crbsim`.
 //!
-//! [`run`] does what its words say over an input and an output. A script has guest accesses, worker steps and faults of the
-//! link between a CRB device and its TPM emulator, or the commands that a polling driver sends to a guest that moves between
-//! two hosts. A host is saved at the end of a script, and another run goes on from what was saved. `bulk` makes its lines
-//! itself, and writes a digest of what they give.
+//! [`run`] does what its words say over an input and an output. A script has guest accesses, worker steps, messages that
+//! move the guest between two hosts, in any order and number, and faults of the links between CRB devices and TPM
+//! emulators; or the commands that a polling driver sends to a guest that moves. A host is saved at the end of a
+//! script, and another run goes on from what was saved. `bulk` makes its lines itself, and writes a digest of what they
+//! give.
 //!
 //! ```
 //! let mut source = MemSource::new(bytes, Vec::new(alloc));
@@ -11,8 +12,8 @@
 //! let ran = run(alloc, &words, &mut source, &mut sink);
 //! ```
 //!
-//! The source is read before the first line is done; the lines are those of `vt_script`, and the hosts those of `vt_world`.
-//! What the caller does with the status and the hosts, and where source and sink come from, is left to it.
+//! The source is read before the first line is done; the lines are those of `vt_script`, and the hosts those of
+//! `vt_world`. What the caller does with the status and the hosts, and where source and sink come from, is left to it.
 #![tactic(auto)]
 
 mod action;

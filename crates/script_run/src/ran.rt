@@ -4,7 +4,7 @@ ghost use Rattle.script_run.specs.Ends.{end_by};
 
 use crb_port::PlainPort;
 use vt_base::Status;
-use vt_world::Pair;
+use vt_world::{Pair, World};
 
 /// What a run answers.
 #[derive(Drop)]
@@ -20,20 +20,22 @@ pub struct Ran {
 pub enum End {
     /// Nothing: the run ended early, or it has nothing to hand out.
     Nothing,
+    /// The world that did all lines of `replay` or `resume`.
+    World(World),
     /// The two hosts on which all drive lines were done.
     Pair(Pair<PlainPort>),
 }
 
 impl Ran {
-    // A run on two hosts, which hands them out where it ended well.
-    pub(crate) fn on_hosts(status: Status, pair: Pair<PlainPort>) -> Ran
+    // A run on hosts, which hands them out where it ended well.
+    pub(crate) fn on_hosts(status: Status, hosts: End) -> Ran
         ensures status { result.status ≡ status }
-        ensures hosts { result.end ≡ end_by status pair }
+        ensures hosts { result.end ≡ end_by status hosts }
     {
         let end = match status {
-            Status::Ok => End::Pair(pair),
+            Status::Ok => hosts,
             _ => {
-                drop(pair);
+                drop(hosts);
                 End::Nothing
             }
         };

@@ -1,11 +1,13 @@
 //! The commands `resume` and `check`: a saved stream is read.
 ghost use Rattle.std.specs.Prelude.{◌≡◌, ◌≢◌};
+ghost use Rattle.script_run.specs.Ends.{HandsOut, HandsResumed};
 ghost use Rattle.script_run.specs.Output.{seen};
 ghost use Rattle.script_run.specs.Run.{IsShort, Leaves};
 ghost use Rattle.script_run.specs.Saved.{resumed, checked};
 ghost use Rattle.saved_stream.specs.Refusals.{IsStreamRefused};
 
 use crate::output::{refused, whole};
+use crate::ran::{End, Ran};
 use crate::replay::follow;
 use ctrl_client::LARGEST_PIECE;
 use saved_stream::laws::streams_are_told_once;
@@ -15,34 +17,45 @@ use vt_world::{Loaded, World};
 
 /// Goes on from the saved stream at the front of the input: does the lines of the script behind it, and writes a reply
 /// to each.
-pub fn resume<K: Sink>(alloc: Global, input: &[u8], sink: &mut K) -> Status
+pub fn resume<K: Sink>(alloc: Global, input: &[u8], sink: &mut K) -> Ran
     requires { IsShort input.now }
-    ensures writes { Leaves result (resumed input.now) (seen (K.written sink.old) (K.room sink.old) (K.faults sink.old))
+    ensures writes { Leaves result.status (resumed input.now) (seen (K.written sink.old) (K.room sink.old) (K.faults sink.old))
         (seen (K.written sink.new) (K.room sink.new) (K.faults sink.new)) }
+    ensures hands_out { HandsOut (HandsResumed input.now) result.status result.end }
 {
     match World::load(alloc, input, LARGEST_PIECE as u32) {
         Ok(Loaded::World(world)) => follow(alloc, world, &[], sink),
         Ok(Loaded::Bad(fault)) => resume_in_front(alloc, fault, input, sink),
-        Err(_) => Status::Memory,
+        Err(_) => Ran {
+            status: Status::Memory,
+            end: End::Nothing,
+        },
     }
 }
 
 // Goes on from a stream that has bytes behind it, which are the script. Any other refusal is written.
-fn resume_in_front<K: Sink>(alloc: Global, fault: Malformed, input: &[u8], sink: &mut K) -> Status
+fn resume_in_front<K: Sink>(alloc: Global, fault: Malformed, input: &[u8], sink: &mut K) -> Ran
     requires short { IsShort input.now }
     requires refused { IsStreamRefused fault input.now }
-    ensures writes { Leaves result (resumed input.now) (seen (K.written sink.old) (K.room sink.old) (K.faults sink.old))
+    ensures writes { Leaves result.status (resumed input.now) (seen (K.written sink.old) (K.room sink.old) (K.faults sink.old))
         (seen (K.written sink.new) (K.room sink.new) (K.faults sink.new)) }
+    ensures hands_out { HandsOut (HandsResumed input.now) result.status result.end }
 {
     streams_are_told_once();
     let Why::Extra = fault.why else {
-        return refused(alloc, &fault, sink);
+        return Ran {
+            status: refused(alloc, &fault, sink),
+            end: End::Nothing,
+        };
     };
     let (stream, script) = input.split_at(fault.place as usize);
     match World::load(alloc, stream, LARGEST_PIECE as u32) {
         Ok(Loaded::World(world)) => follow(alloc, world, script, sink),
         Ok(Loaded::Bad(_)) => unreachable!(),
-        Err(_) => Status::Memory,
+        Err(_) => Ran {
+            status: Status::Memory,
+            end: End::Nothing,
+        },
     }
 }
 

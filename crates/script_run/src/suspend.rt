@@ -1,7 +1,10 @@
 //! The command `suspend`: the lines of a script are done, and the host is saved.
-ghost use Rattle.std.specs.Prelude.{◌≡◌, ◌≢◌};
+ghost use Rattle.std.specs.Prelude.{◌≡◌, ◌≢◌, true, IfSome};
 ghost use Rattle.crb_history.specs.Base.{Base};
+ghost use Rattle.crb_history.specs.Plain.{is_plain};
 ghost use Rattle.crb_history.specs.Replies.{Transcript};
+ghost use Rattle.move_core.specs.Sides.{is_running};
+ghost use Rattle.vt_seat.specs.Seats.{world_of};
 ghost use Rattle.vt_world.specs.Saving.{CanSave};
 ghost use Rattle.script_run.specs.Loop.{WritesSaved};
 ghost use Rattle.script_run.specs.Output.{seen};
@@ -32,7 +35,7 @@ pub fn suspend<K: Sink>(alloc: Global, script: &[u8], sink: &mut K) -> Status
             drop(world);
             return bad_line(alloc, lines.number(), &[], sink);
         };
-        world.step(&line);
+        world.guest(&line);
     }
     plain_runs_are_one();
     let status = save(alloc, &mut world, sink);
@@ -42,8 +45,9 @@ pub fn suspend<K: Sink>(alloc: Global, script: &[u8], sink: &mut K) -> Status
 
 // Writes the saved stream of a host.
 fn save<K: Sink>(alloc: Global, world: &mut World, sink: &mut K) -> Status
-    requires { (b : Base) × (t : Transcript) × CanSave b t world.old }
-    ensures writes { (b : Base) (t : Transcript) → CanSave b t world.old → WritesSaved b t result (seen (K.written sink.old) (K.room sink.old) (K.faults sink.old))
+    requires runs { is_running world.old.a.host.stage ≡ true }
+    requires can_save { (b : Base) × (t : Transcript) × CanSave b t (world_of world.old.a) }
+    ensures writes { (b : Base) (t : Transcript) → CanSave b t (world_of world.old.a) → WritesSaved b t result (seen (K.written sink.old) (K.room sink.old) (K.faults sink.old))
         (seen (K.written sink.new) (K.room sink.new) (K.faults sink.new)) }
 {
     let mut stream = Vec::new(alloc);
@@ -54,12 +58,19 @@ fn save<K: Sink>(alloc: Global, world: &mut World, sink: &mut K) -> Status
     }
 }
 
-// What a line of a suspension asks for. A host on which a call is to fail isn't saved.
+// What a line of a suspension asks for. A host on which a call is to fail isn't saved, nor one that takes part in a
+// move.
 fn plain_line(text: &[u8]) -> Option<Event>
-    ensures { result ≡ plain_event_of text.now }
+    ensures line { result ≡ plain_event_of text.now }
+    ensures plain { IfSome result (λ line. is_plain line ≡ true) }
 {
     match parse_line(text)? {
         line @ (Event::Access(_) | Event::Work | Event::Ask | Event::Reset) => Some(line),
-        Event::Fail { .. } => None,
+        Event::Offer
+        | Event::Deliver(_)
+        | Event::GiveUp
+        | Event::Again
+        | Event::Show(_)
+        | Event::Fail { .. } => None,
     }
 }

@@ -35,11 +35,16 @@ const LONG_INPUT: &[u8] = b"long input\n";
 /// nothing: it does the drive lines that are drawn from the seed N, and writes how many of each kind there were and the
 /// SHA-256 of what `drive` writes for them.
 ///
-/// Where `drive` or `bulk` is `Ok`, the two hosts that did the lines are handed out. The status is `Ok` where the whole
-/// input was read and done; `Usage` where the words are none that are known, and then nothing is read; `Script` at the
-/// first line that isn't in the grammar; `Limit` for an input of more than 1,048,576 bytes; `Refused` where the input
-/// isn't, or doesn't begin with, a saved stream; `NotYet` where a host can't be saved since a command of it is claimed
-/// and unfinished; `ReadFault` and `WriteFault` where the source or the sink failed; `Memory` where memory was wanting.
+/// What `replay` and `resume` print is a run of one CRB device over one TPM that never moved, whatever messages between
+/// the two hosts are lost, repeated or reordered. Lines have one run (`two_hosts::laws::runs_are_one`), so the replies
+/// that are written and the world that is handed out are of the same one.
+///
+/// Where `replay` or `resume` is `Ok`, the world that did the lines is handed out, and where `drive` or `bulk` is, the
+/// two hosts that did them. The status is `Ok` where the whole input was read and done; `Usage` where the words are
+/// none that are known, and then nothing is read; `Script` at the first line that isn't in the grammar; `Limit` for an
+/// input of more than 1,048,576 bytes; `Refused` where the input isn't, or doesn't begin with, a saved stream; `NotYet`
+/// where a host can't be saved since a command of it is claimed and unfinished; `ReadFault` and `WriteFault` where the
+/// source or the sink failed; `Memory` where memory was wanting.
 pub fn run<S: Source, K: Sink>(alloc: Global, words: &[String], source: &mut S, sink: &mut K) -> Ran
     // Where the bytes of the source and the sink are known: what is written is what the action reads in the input.
     ensures does { (action : Action) → IsAction action words.now
@@ -51,8 +56,7 @@ pub fn run<S: Source, K: Sink>(alloc: Global, words: &[String], source: &mut S, 
         (seen (K.written sink.old) (K.room sink.old) (K.faults sink.old)) (seen (K.written sink.new) (K.room sink.new) (K.faults sink.new)) }
     ensures needs_no_input { (seed count : ℕ) → IsBulk seed count words.now → source.new ≡ source.old }
 
-    // Where all drive lines were done, the two hosts that did them are handed out; with any other words or status
-    // nothing is.
+    // Where all lines were done, the hosts that did them are handed out; with any other words or status nothing is.
     ensures hands_out { (action : Action) → IsAction action words.now
         → IfSome (S.left source.old) (λ input. EndOf action input result.status result.end) }
     ensures hands_out_on_ok { (action : Action) → IsAction action words.now → HasEnd action result.status result.end }
@@ -131,19 +135,13 @@ fn act_on<K: Sink>(alloc: Global, action: Action, input: &[u8], sink: &mut K) ->
     ensures hands_out { EndOf action input.now result.status result.end }
 {
     match action {
-        Action::Replay => Ran {
-            status: replay(alloc, input, sink),
-            end: End::Nothing,
-        },
+        Action::Replay => replay(alloc, input, sink),
         Action::Drive => drive(alloc, input, sink),
         Action::Suspend => Ran {
             status: suspend(alloc, input, sink),
             end: End::Nothing,
         },
-        Action::Resume => Ran {
-            status: resume(alloc, input, sink),
-            end: End::Nothing,
-        },
+        Action::Resume => resume(alloc, input, sink),
         Action::Check => Ran {
             status: check(alloc, input, sink),
             end: End::Nothing,

@@ -4,7 +4,7 @@ use Rattle.std.proofs.lemmas.Bool.{cond-true, cond-false}
 use Rattle.crb_history.specs.Base.{Base}
 use Rattle.vt_script.specs.declared.event.Event.{Event}
 use Rattle.vt_script.specs.declared.event.Event.TheVariants as line
-use Rattle.vt_script.specs.declared.reply.Reply.{Reply as GuestReply}
+use Rattle.vt_script.specs.declared.reply.Reply.{Reply}
 use Rattle.move_codec.specs.declared.names.HostName.{HostName}
 use Rattle.move_codec.specs.declared.names.HostName.TheVariants.{A, B}
 use Rattle.move_codec.specs.declared.message.Message.{Message}
@@ -12,11 +12,10 @@ use Rattle.move_core.specs.declared.stage.MoveStage.{MoveStage}
 use Rattle.move_core.specs.declared.stage.MoveStage.TheVariants as stage
 use Rattle.move_core.specs.Sides.{side_of, is_running}
 use Rattle.move_core.specs.declared.side.Side.TheVariants.{Offering}
-use Rattle.two_hosts.specs.declared.line.Line.{Line}
-use Rattle.two_hosts.specs.declared.line.Line.TheVariants.{Guest, Offer, Deliver, GiveUp, Again, Show}
-use Rattle.two_hosts.specs.declared.reply.Reply.{Reply}
-use Rattle.two_hosts.specs.declared.reply.Reply.TheVariants as reply
-use Rattle.two_hosts.specs.Hosts.{TwoHosts, Transcript, hosts_after, stage_at, host_where, running_host, is_offering, is_prepared, message_at, after_delivery, after_offer, after_give_up, after_again, guest_line, guest_line_on, guest_line_on_any, after_guest, after_line, after_exchange}
+use Rattle.vt_script.specs.declared.event.Event.TheVariants.{Offer, Deliver, GiveUp, Again, Show}
+use Rattle.vt_script.specs.declared.reply.Reply.TheVariants as reply
+use Rattle.two_hosts.specs.Hosts.{TwoHosts, hosts_after, stage_at, host_where, running_host, is_offering, is_prepared, message_at, after_delivery, after_offer, after_give_up, after_again, guest_line_on, guest_line_on_any, after_line, after_exchange}
+use Rattle.crb_history.specs.Replies.{Transcript}
 use Rattle.two_hosts.specs.Replies.{InTurn}
 use Rattle.two_hosts.specs.Invariant.{HostsInvariant, IsPassive}
 use Rattle.two_hosts.specs.Laws.{IsMoveLine, StaysOffering, IsOffering}
@@ -42,8 +41,12 @@ again_history t None = refl
 again_history t (Some n) = refl
 
 -- a line of a move
-pub moves_leave : (b : Base) (piece : ℕ) (t : TwoHosts) (l : Line) (q : Reply) → IsMoveLine l → (after_line b piece t l q).history ≡ t.history
-moves_leave b piece t (Guest e) q is = absurd is
+pub moves_leave : (b : Base) (piece : ℕ) (t : TwoHosts) (l : Event) (q : Reply) → IsMoveLine l → (after_line b piece t l q).history ≡ t.history
+moves_leave b piece t (line.Access a) q is = absurd is
+moves_leave b piece t line.Work q is = absurd is
+moves_leave b piece t line.Ask q is = absurd is
+moves_leave b piece t line.Reset q is = absurd is
+moves_leave b piece t (line.Fail host call) q is = absurd is
 moves_leave b piece t Offer q is = offer_history b t (running_host t) q
 moves_leave b piece t (Deliver k) q is = delivery_history piece t (message_at t.sent k) q
 moves_leave b piece t GiveUp q is = give_up_history t (host_where is_offering t)
@@ -52,32 +55,25 @@ moves_leave b piece t (Show k) q is = refl
 
 -- ---- where no host runs
 
-fault_history : (b : Base) (t : TwoHosts) (n host : HostName) (call : ℕ) (g : GuestReply) → (guest_line_on b t n (line.Fail host call) g).history ≡ t.history
+fault_history : (b : Base) (t : TwoHosts) (n host : HostName) (call : ℕ) (g : Reply) → (guest_line_on b t n (line.Fail host call) g).history ≡ t.history
 fault_history b t n host call g = refl
 
-nothing_on : (b : Base) (t : TwoHosts) (e : Event) (g : GuestReply) (found : Option HostName) → found ≡ None → (guest_line_on_any b t found e g).history ≡ t.history
+nothing_on : (b : Base) (t : TwoHosts) (e : Event) (g : Reply) (found : Option HostName) → found ≡ None → (guest_line_on_any b t found e g).history ≡ t.history
 nothing_on b t e g found none = ap (λ (k : Option HostName). (guest_line_on_any b t k e g).history) none
 
-event_leaves : (b : Base) (t : TwoHosts) (e : Event) (g : GuestReply) → running_host t ≡ None → (guest_line b t e g).history ≡ t.history
-event_leaves b t (line.Fail host call) g none = refl
-event_leaves b t (line.Access a) g none = nothing_on b t (line.Access a) g (running_host t) none
-event_leaves b t line.Work g none = nothing_on b t line.Work g (running_host t) none
-event_leaves b t line.Ask g none = nothing_on b t line.Ask g (running_host t) none
-event_leaves b t line.Reset g none = nothing_on b t line.Reset g (running_host t) none
-
-guest_leaves : (b : Base) (t : TwoHosts) (e : Event) (q : Reply) → running_host t ≡ None → (after_guest b t e q).history ≡ t.history
-guest_leaves b t e (reply.Guest g) none = event_leaves b t e g none
-guest_leaves b t e _ none = refl
-
-pub stopped_leaves : (b : Base) (piece : ℕ) (t : TwoHosts) (l : Line) (q : Reply) → running_host t ≡ None → (after_line b piece t l q).history ≡ t.history
-stopped_leaves b piece t (Guest e) q none = guest_leaves b t e q none
+pub stopped_leaves : (b : Base) (piece : ℕ) (t : TwoHosts) (l : Event) (q : Reply) → running_host t ≡ None → (after_line b piece t l q).history ≡ t.history
+stopped_leaves b piece t (line.Access a) q none = nothing_on b t (line.Access a) q (running_host t) none
+stopped_leaves b piece t line.Work q none = nothing_on b t line.Work q (running_host t) none
+stopped_leaves b piece t line.Ask q none = nothing_on b t line.Ask q (running_host t) none
+stopped_leaves b piece t line.Reset q none = nothing_on b t line.Reset q (running_host t) none
+stopped_leaves b piece t (line.Fail host call) q none = refl
 stopped_leaves b piece t Offer q none = offer_history b t (running_host t) q
 stopped_leaves b piece t (Deliver k) q none = delivery_history piece t (message_at t.sent k) q
 stopped_leaves b piece t GiveUp q none = give_up_history t (host_where is_offering t)
 stopped_leaves b piece t Again q none = again_history t (host_where is_prepared t)
 stopped_leaves b piece t (Show k) q none = refl
 
-exchange_leaves : (b : Base) (piece : ℕ) (t : TwoHosts) (l : Option Line) (q : Reply) → running_host t ≡ None → (after_exchange b piece t l q).history ≡ t.history
+exchange_leaves : (b : Base) (piece : ℕ) (t : TwoHosts) (l : Option Event) (q : Reply) → running_host t ≡ None → (after_exchange b piece t l q).history ≡ t.history
 exchange_leaves b piece t None q none = refl
 exchange_leaves b piece t (Some l) q none = stopped_leaves b piece t l q none
 

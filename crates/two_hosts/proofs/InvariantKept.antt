@@ -5,14 +5,13 @@ use Rattle.std.proofs.lemmas.Bool.{cond_both}
 use Rattle.crb_regs.specs.Registers.{is_lost}
 use Rattle.vt_script.specs.declared.event.Event.{Event}
 use Rattle.vt_script.specs.declared.event.Event.TheVariants as line
-use Rattle.vt_script.specs.declared.reply.Reply.{Reply as GuestReply}
-use Rattle.vt_script.specs.declared.reply.Reply.TheVariants as guest
+use Rattle.vt_script.specs.declared.reply.Reply.{Reply}
 use Rattle.crb_history.specs.Base.{Base}
 use Rattle.crb_history.specs.Event.{History}
 use Rattle.crb_history.specs.Device.{phase_of, stage_of, Stage as JobStage}
 use Rattle.crb_history.specs.Device.Stage.{Waiting, Claimed, HasSent, HasRun}
 use Rattle.crb_history.specs.Continued.{base_after, MaySuspend}
-use Rattle.crb_history.specs.Replies.{is_under_way}
+use Rattle.crb_history.specs.Replies.{is_under_way, Transcript, is_fault}
 use Rattle.crb_history.specs.Asked.{is_waiting}
 use Rattle.move_codec.specs.declared.names.HostName.{HostName}
 use Rattle.move_codec.specs.declared.names.HostName.TheVariants.{A, B}
@@ -24,13 +23,11 @@ use Rattle.move_core.specs.declared.stage.MoveStage.{MoveStage}
 use Rattle.move_core.specs.declared.stage.MoveStage.TheVariants as stage
 use Rattle.move_core.specs.declared.side.Side.TheVariants.{Running, Offering}
 use Rattle.move_core.specs.Sides.{side_of, is_running, other}
-use Rattle.two_hosts.specs.declared.line.Line.{Line}
-use Rattle.two_hosts.specs.declared.line.Line.TheVariants.{Guest, Offer, Deliver, GiveUp, Again, Show}
-use Rattle.two_hosts.specs.declared.reply.Reply.{Reply}
-use Rattle.two_hosts.specs.declared.reply.Reply.TheVariants as reply
+use Rattle.vt_script.specs.declared.event.Event.TheVariants.{Offer, Deliver, GiveUp, Again, Show}
+use Rattle.vt_script.specs.declared.reply.Reply.TheVariants as reply
 use Rattle.two_hosts.specs.Deliveries.{Outcome, delivered, calls_of_delivery}
-use Rattle.two_hosts.specs.Hosts.{TwoHosts, HostState, Transcript, hosts_after, first_hosts, host_of, stage_at, host_where, running_host, is_offering, is_prepared, message_at, bag_size, with_host, epoch_of, message_in, context_for, is_fault, counted, with_outcome, after_delivery, after_message, after_offer, offered_by, after_give_up, after_again, guest_line_on, guest_line_on_any, after_guest, after_line, after_exchange, guest_line}
-use Rattle.two_hosts.specs.Replies.{AnswersIn, AnswersLine, AnswersGuest, InTurn, offer_reply, offer_reply_at}
+use Rattle.two_hosts.specs.Hosts.{TwoHosts, HostState, hosts_after, first_hosts, host_of, stage_at, host_where, running_host, is_offering, is_prepared, message_at, bag_size, with_host, epoch_of, message_in, context_for, counted, with_outcome, after_delivery, after_message, after_offer, offered_by, after_give_up, after_again, guest_line_on, guest_line_on_any, after_line, after_exchange}
+use Rattle.two_hosts.specs.Replies.{AnswersIn, AnswersLine, InTurn, offer_reply, offer_reply_at}
 use Rattle.two_hosts.specs.Invariant.{IsSent, IsConsistent, PairInvariant, HostsInvariant, IsPresent, side_at}
 use Rattle.two_hosts.proofs.HolderActs as holder
 use Rattle.two_hosts.proofs.RestActs as rest
@@ -154,51 +151,44 @@ offers_kept b t n r kept is answers = counted_kept b t n r 0 kept
 
 -- ---- a line of the guest
 
-guest_kept : (b : Base) (t : TwoHosts) (n to : HostName) (e : Event) (r : GuestReply) → PairInvariant n (other n) (side_at t n) (side_at t (other n)) t.offered (IsPresent b t.history) t.sent → is_running (stage_at t to) ≡ true → HostsInvariant b (guest_line_on b t to e r)
+guest_kept : (b : Base) (t : TwoHosts) (n to : HostName) (e : Event) (r : Reply) → PairInvariant n (other n) (side_at t n) (side_at t (other n)) t.offered (IsPresent b t.history) t.sent → is_running (stage_at t to) ≡ true → HostsInvariant b (guest_line_on b t to e r)
 guest_kept b t A A e r kept is = (A, holder.works_on A B t.a.side t.b.side t.offered _ t.sent kept _ (running_stage t.a.side.stage is))
 guest_kept b t B B e r kept is = (B, holder.works_on B A t.b.side t.a.side t.offered _ t.sent kept _ (running_stage t.b.side.stage is))
 guest_kept b t A B e r kept is = absurd (rest.rests A B t.a.side t.b.side t.offered _ t.sent kept Running (ap side_of (running_stage t.b.side.stage is)))
 guest_kept b t B A e r kept is = absurd (rest.rests B A t.b.side t.a.side t.offered _ t.sent kept Running (ap side_of (running_stage t.a.side.stage is)))
 
-guests_kept : (b : Base) (t : TwoHosts) (e : Event) (r : GuestReply) → HostsInvariant b t → HostsInvariant b (guest_line_on_any b t (running_host t) e r)
+guests_kept : (b : Base) (t : TwoHosts) (e : Event) (r : Reply) → HostsInvariant b t → HostsInvariant b (guest_line_on_any b t (running_host t) e r)
 guests_kept b t e r kept = host_where_cases is_running t (λ n. HostsInvariant b (guest_line_on_any b t n e r)) (λ n is. guest_kept b t kept.0 n e r kept.1 is) kept
 
-ordered_kept : (b : Base) (t : TwoHosts) (n : HostName) (call : ℕ) → HostsInvariant b t → HostsInvariant b (guest_line_on b t n (line.Fail n call) guest.Accepted)
+ordered_kept : (b : Base) (t : TwoHosts) (n : HostName) (call : ℕ) → HostsInvariant b t → HostsInvariant b (guest_line_on b t n (line.Fail n call) reply.Accepted)
 ordered_kept b t A call kept = (kept.0, go kept.0 kept.1)
   where
     go : (n : HostName) → PairInvariant n (other n) (side_at t n) (side_at t (other n)) t.offered (IsPresent b t.history) t.sent
-        → PairInvariant n (other n) (side_at (guest_line_on b t A (line.Fail A call) guest.Accepted) n) (side_at (guest_line_on b t A (line.Fail A call) guest.Accepted) (other n)) t.offered (IsPresent b t.history) t.sent
+        → PairInvariant n (other n) (side_at (guest_line_on b t A (line.Fail A call) reply.Accepted) n) (side_at (guest_line_on b t A (line.Fail A call) reply.Accepted) (other n)) t.offered (IsPresent b t.history) t.sent
     go A kept = kept
     go B kept = kept
 ordered_kept b t B call kept = (kept.0, go kept.0 kept.1)
   where
     go : (n : HostName) → PairInvariant n (other n) (side_at t n) (side_at t (other n)) t.offered (IsPresent b t.history) t.sent
-        → PairInvariant n (other n) (side_at (guest_line_on b t B (line.Fail B call) guest.Accepted) n) (side_at (guest_line_on b t B (line.Fail B call) guest.Accepted) (other n)) t.offered (IsPresent b t.history) t.sent
+        → PairInvariant n (other n) (side_at (guest_line_on b t B (line.Fail B call) reply.Accepted) n) (side_at (guest_line_on b t B (line.Fail B call) reply.Accepted) (other n)) t.offered (IsPresent b t.history) t.sent
     go A kept = kept
     go B kept = kept
 
-event_kept : (b : Base) (t : TwoHosts) (e : Event) (r : GuestReply) → HostsInvariant b t → AnswersGuest b t e (reply.Guest r) → HostsInvariant b (guest_line b t e r)
-event_kept b t (line.Fail host call) r kept answers = let same : r ≡ guest.Accepted = cc in subst (λ x. HostsInvariant b (guest_line_on b t host (line.Fail host call) x)) (sym same) (ordered_kept b t host call kept)
-event_kept b t (line.Access a) r kept answers = guests_kept b t (line.Access a) r kept
-event_kept b t line.Work r kept answers = guests_kept b t line.Work r kept
-event_kept b t line.Ask r kept answers = guests_kept b t line.Ask r kept
-event_kept b t line.Reset r kept answers = guests_kept b t line.Reset r kept
-
-guest_line_kept : (b : Base) (t : TwoHosts) (e : Event) (r : Reply) → HostsInvariant b t → AnswersGuest b t e r → HostsInvariant b (after_guest b t e r)
-guest_line_kept b t e (reply.Guest r) kept answers = event_kept b t e r kept answers
-guest_line_kept b t e _ kept answers = kept
-
 -- ---- every line
 
-pub line_kept : (b : Base) (piece : ℕ) (t : TwoHosts) (l : Line) (r : Reply) → HostsInvariant b t → AnswersLine b piece t l r → HostsInvariant b (after_line b piece t l r)
-line_kept b piece t (Guest e) r kept answers = guest_line_kept b t e r kept answers
+pub line_kept : (b : Base) (piece : ℕ) (t : TwoHosts) (l : Event) (r : Reply) → HostsInvariant b t → AnswersLine b piece t l r → HostsInvariant b (after_line b piece t l r)
+line_kept b piece t (line.Access a) r kept answers = guests_kept b t (line.Access a) r kept
+line_kept b piece t line.Work r kept answers = guests_kept b t line.Work r kept
+line_kept b piece t line.Ask r kept answers = guests_kept b t line.Ask r kept
+line_kept b piece t line.Reset r kept answers = guests_kept b t line.Reset r kept
+line_kept b piece t (line.Fail host call) r kept answers = subst (λ x. HostsInvariant b (guest_line_on b t host (line.Fail host call) x)) (sym answers) (ordered_kept b t host call kept)
 line_kept b piece t Offer r kept answers = host_where_cases is_running t (λ n. r ≡ offer_reply b t n → HostsInvariant b (after_offer b t n r)) (λ n is at. offers_kept b t n r kept is at) (λ at. kept) answers
 line_kept b piece t (Deliver k) r kept answers = comes_kept b piece t (message_at t.sent k) r kept (in_bag_sent t.sent k)
 line_kept b piece t GiveUp r kept answers = host_where_cases is_offering t (λ n. HostsInvariant b (after_give_up t n)) (λ n is. gives_up_kept b t kept.0 n kept.1 is) kept
 line_kept b piece t Again r kept answers = host_where_cases is_prepared t (λ n. HostsInvariant b (after_again t n)) (λ n is. says_again_kept b t kept.0 n kept.1 is) kept
 line_kept b piece t (Show k) r kept answers = kept
 
-pub exchange_kept : (b : Base) (piece : ℕ) (t : TwoHosts) (l : Option Line) (r : Reply) → HostsInvariant b t → AnswersIn b piece t l r → HostsInvariant b (after_exchange b piece t l r)
+pub exchange_kept : (b : Base) (piece : ℕ) (t : TwoHosts) (l : Option Event) (r : Reply) → HostsInvariant b t → AnswersIn b piece t l r → HostsInvariant b (after_exchange b piece t l r)
 exchange_kept b piece t None r kept answers = kept
 exchange_kept b piece t (Some l) r kept answers = line_kept b piece t l r kept answers
 

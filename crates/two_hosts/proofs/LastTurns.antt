@@ -10,10 +10,11 @@ use Rattle.move_codec.specs.declared.message.Body.{Body}
 use Rattle.move_core.specs.declared.answers.Delivered.{Delivered}
 use Rattle.move_core.specs.declared.answers.Delivered.TheVariants as delivers
 use Rattle.move_core.specs.Sides.{other}
-use Rattle.two_hosts.specs.declared.reply.Reply.{Reply}
-use Rattle.two_hosts.specs.declared.reply.Reply.TheVariants as reply
+use Rattle.vt_script.specs.declared.reply.Reply.{Reply}
+use Rattle.vt_script.specs.declared.reply.Reply.TheVariants as reply
 use Rattle.two_hosts.specs.Deliveries.{SideState, Outcome, delivered, calls_of_delivery}
-use Rattle.two_hosts.specs.Hosts.{TwoHosts, HostState, host_of, with_outcome, counted, context_for, message_at, next_number, bag_size, fails_at, is_fault, after_message, after_delivery}
+use Rattle.two_hosts.specs.Hosts.{TwoHosts, HostState, host_of, with_outcome, counted, context_for, message_at, next_number, bag_size, fails_at, after_message, after_delivery}
+use Rattle.crb_history.specs.Replies.{is_fault}
 use Rattle.two_hosts.specs.Replies.{deliver_reply, delivery_reply, meets_fault}
 use Rattle.two_hosts.specs.Invariant.{side_at}
 
@@ -89,7 +90,7 @@ module _ (piece : ℕ) where
 
   -- the last message is answered by another one
   pub record Turned (w : TwoHosts) (to : HostName) (g : SideState) (count : ℕ) (m : Message) : Type 0 where
-    pub replies : last_reply w ≡ reply.Sent (count + 1)
+    pub replies : last_reply w ≡ reply.SentMessage (count + 1)
     pub acted : side_at (turn_last w) to ≡ g
     pub still : side_at (turn_last w) (other to) ≡ side_at w (other to)
     pub offered : (turn_last w).offered ≡ w.offered
@@ -112,7 +113,7 @@ module _ (piece : ℕ) where
 
   -- the receiver after its calls
   abbrev receiver : TwoHosts → ℕ → HostName → ℕ → Body → HostState
-  receiver w count to e b = counted (reply.Sent (count + 1)) (calls_of_delivery (context_for piece w to false) (side_at w to) e b) (host_of w to)
+  receiver w count to e b = counted (reply.SentMessage (count + 1)) (calls_of_delivery (context_for piece w to false) (side_at w to) e b) (host_of w to)
 
   abbrev sends : SideState → Message → Outcome
   sends g m = record { side = g; answer = delivers.Sent m }
@@ -131,11 +132,11 @@ module _ (piece : ℕ) where
       number : next_number w.sent ≡ count + 1
       number = cond-true (nat_lt (length w.sent) bag_size) _ _ (lt-ltb (length w.sent) bag_size (omega (arith, last.amount))) ∙ ap (λ k. k + 1) last.amount
 
-      says : last_reply w ≡ reply.Sent (count + 1)
-      says = replied w count (record { to = to; epoch = e; body = b }) g (delivers.Sent m) last (omega (arith, room)) works answers ∙ ap reply.Sent number
+      says : last_reply w ≡ reply.SentMessage (count + 1)
+      says = replied w count (record { to = to; epoch = e; body = b }) g (delivers.Sent m) last (omega (arith, room)) works answers ∙ ap reply.SentMessage number
 
-      new : turn_last w ≡ with_outcome w to (counted (reply.Sent (count + 1)) (calls_of_delivery (context_for piece w to false) (side_at w to) e b) (host_of w to)) (record { side = g; answer = delivers.Sent m })
-      new = led w count (record { to = to; epoch = e; body = b }) g (delivers.Sent m) (reply.Sent (count + 1)) last (omega (arith, room)) works answers says refl
+      new : turn_last w ≡ with_outcome w to (counted (reply.SentMessage (count + 1)) (calls_of_delivery (context_for piece w to false) (side_at w to) e b) (host_of w to)) (record { side = g; answer = delivers.Sent m })
+      new = led w count (record { to = to; epoch = e; body = b }) g (delivers.Sent m) (reply.SentMessage (count + 1)) last (omega (arith, room)) works answers says refl
 
   -- the last message makes its receiver run
   pub record Ran (w : TwoHosts) (to : HostName) (g : SideState) : Type 0 where

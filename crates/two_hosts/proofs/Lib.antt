@@ -1,5 +1,6 @@
 mod WorkedScripts
 pub mod Shifts
+pub mod GuestReplies
 pub mod RunningSets
 pub mod Stopped
 pub mod Repeated

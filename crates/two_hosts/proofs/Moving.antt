@@ -14,7 +14,7 @@ use Rattle.move_core.specs.declared.stage.MoveStage.TheVariants as stage
 use Rattle.move_core.specs.declared.answers.Delivered.TheVariants.{Sent}
 use Rattle.move_core.specs.Sides.{other, part_after, part_number, total_of}
 use Rattle.move_core.specs.Table.{message_from, is_next}
-use Rattle.two_hosts.specs.declared.reply.Reply.TheVariants as reply
+use Rattle.vt_script.specs.declared.reply.Reply.TheVariants as reply
 use Rattle.two_hosts.specs.Parts.{part_bytes, totals_of}
 use Rattle.two_hosts.specs.Deliveries.{SideState, DeliveryContext, delivered, on_need, reaches, goes_to}
 use Rattle.two_hosts.specs.Hosts.{TwoHosts, context_for, bag_size}
@@ -117,7 +117,7 @@ module _ (piece : ℕ) (w : TwoHosts) (n : HostName) (e : ℕ) (v : Base) (p : P
 
     -- it is answered, and what follows
     pub record Pieced : Type 0 where
-      pub replies : last_reply piece w ≡ reply.Sent (count + 1)
+      pub replies : last_reply piece w ≡ reply.SentMessage (count + 1)
       pub onward : Onward new n e v p place (count + 1) piece
 
     goes : (next : Option Part) → part_after p ≡ next → size_of v p ≤ place + length bytes → reaches x y e (totals_of v) p (place + length bytes) ≡ goes_to x y e (totals_of v) next → Pieced
@@ -151,7 +151,7 @@ module _ (piece : ℕ) (w : TwoHosts) (n : HostName) (e : ℕ) (v : Base) (p : P
 
 -- each of so many deliveries is answered by one more message
 abbrev pub AllSent : ℕ → TwoHosts → ℕ → ℕ → Type 0
-AllSent piece w count turns = (j : ℕ) → j < turns → last_reply piece (often piece j w) ≡ reply.Sent (count + 1 + j)
+AllSent piece w count turns = (j : ℕ) → j < turns → last_reply piece (often piece j w) ≡ reply.SentMessage (count + 1 + j)
 
 -- so many deliveries leave the target prepared
 pub record Ended (piece : ℕ) (w : TwoHosts) (n : HostName) (e : ℕ) (v : Base) (count turns : ℕ) : Type 0 where
@@ -159,16 +159,16 @@ pub record Ended (piece : ℕ) (w : TwoHosts) (n : HostName) (e : ℕ) (v : Base
   pub sent : AllSent piece w count turns
 
 -- two deliveries, and those that follow
-two_more : (piece : ℕ) (w : TwoHosts) (count turns : ℕ) → last_reply piece w ≡ reply.Sent (count + 1) → last_reply piece (turn_last piece w) ≡ reply.Sent (count + 1 + 1)
+two_more : (piece : ℕ) (w : TwoHosts) (count turns : ℕ) → last_reply piece w ≡ reply.SentMessage (count + 1) → last_reply piece (turn_last piece w) ≡ reply.SentMessage (count + 1 + 1)
     → AllSent piece (turn_last piece (turn_last piece w)) (count + 1 + 1) turns → AllSent piece w count (suc (suc turns))
-two_more piece w count turns one two rest zero low = let same : count + 1 ≡ count + 1 + 0 = omega arith in one ∙ ap reply.Sent same
+two_more piece w count turns one two rest zero low = let same : count + 1 ≡ count + 1 + 0 = omega arith in one ∙ ap reply.SentMessage same
 two_more piece w count turns one two rest (suc zero) low = two
 two_more piece w count turns one two rest (suc (suc j)) low =
     let same : count + 1 + 1 + 1 + j ≡ count + 1 + suc (suc j) = omega arith in
-    ap (last_reply piece) (often_more piece (suc j) w ∙ often_more piece j (turn_last piece w)) ∙ rest j (omega arith) ∙ ap reply.Sent same
+    ap (last_reply piece) (often_more piece (suc j) w ∙ often_more piece j (turn_last piece w)) ∙ rest j (omega arith) ∙ ap reply.SentMessage same
 
 module _ (piece : ℕ) (n : HostName) (e : ℕ) (v : Base) (pos : 0 < piece) (good : (q : Part) → 0 < size_of v q) where
-  onward_on : (k : ℕ) (w : TwoHosts) (p : Part) (place count : ℕ) → last_reply piece w ≡ reply.Sent (count + 1) → last_reply piece (turn_last piece w) ≡ reply.Sent (count + 1 + 1)
+  onward_on : (k : ℕ) (w : TwoHosts) (p : Part) (place count : ℕ) → last_reply piece w ≡ reply.SentMessage (count + 1) → last_reply piece (turn_last piece w) ≡ reply.SentMessage (count + 1 + 1)
       → ((q : Part) (next : ℕ) → Moving (turn_last piece (turn_last piece w)) n e v q next (count + 1 + 1) n (body.Need q next) → next < size_of v q → left_of piece (size_of v) q next ≡ k → Ended piece (turn_last piece (turn_last piece w)) n e v (count + 1 + 1) (2 * k))
       → left_of piece (size_of v) p place ≡ suc k → Onward (turn_last piece (turn_last piece w)) n e v p place (count + 1 + 1) piece
       → Ended piece w n e v count (2 * suc k)

@@ -4,67 +4,56 @@ use Rattle.std.specs.Prelude.{map, IsSome}
 use Rattle.crb_regs.specs.Access.{Access}
 use Rattle.vt_script.specs.declared.event.Event.{Event}
 use Rattle.vt_script.specs.declared.event.Event.TheVariants as line
-use Rattle.vt_script.specs.declared.reply.Reply.{Reply as GuestReply}
-use Rattle.vt_script.specs.declared.reply.Reply.TheVariants as guest
+use Rattle.vt_script.specs.declared.reply.Reply.{Reply}
 use Rattle.crb_history.specs.Base.{Base}
 use Rattle.crb_history.specs.Event.{History}
 use Rattle.crb_history.specs.Legal.{Legal}
-use Rattle.crb_history.specs.Replies.{Answers, turn, ask_reply, reset_reply, with_event}
+use Rattle.crb_history.specs.Replies.{Answers, turn, ask_reply, reset_reply, with_event, Exchange, line_of, Transcript}
 use Rattle.move_codec.specs.declared.names.HostName.{HostName}
 use Rattle.move_codec.specs.declared.message.Message.{Message}
-use Rattle.two_hosts.specs.declared.line.Line.{Line}
-use Rattle.two_hosts.specs.declared.line.Line.TheVariants.{Guest, Offer, Deliver, GiveUp, Again, Show}
-use Rattle.two_hosts.specs.declared.reply.Reply.{Reply}
-use Rattle.two_hosts.specs.declared.reply.Reply.TheVariants as reply
-use Rattle.two_hosts.specs.Hosts.{TwoHosts, host_of, running_host, host_where, is_offering, is_prepared, fails_at, guest_line_on_any, after_guest, after_exchange, after_offer, after_delivery, after_give_up, after_again, message_at, Exchange, line_of, Transcript, hosts_after}
-use Rattle.two_hosts.specs.Replies.{AnswersIn, AnswersOn, AnswersGuest, IsRun}
+use Rattle.vt_script.specs.declared.event.Event.TheVariants.{Offer, Deliver, GiveUp, Again, Show}
+use Rattle.vt_script.specs.declared.reply.Reply.TheVariants as reply
+use Rattle.two_hosts.specs.Hosts.{TwoHosts, host_of, running_host, host_where, is_offering, is_prepared, fails_at, guest_line_on_any, after_exchange, after_offer, after_delivery, after_give_up, after_again, message_at, hosts_after}
+use Rattle.two_hosts.specs.Replies.{AnswersIn, AnswersOn, IsRun}
 
 -- a read or a write, on the host that is found
-values_once : (b : Base) (t : TwoHosts) (n : HostName) (a : Access) (r q : GuestReply) (fails : ℕ → Bool) → Answers b t.history fails (Some (line.Access a)) r → Answers b t.history fails (Some (line.Access a)) q
+values_once : (b : Base) (t : TwoHosts) (n : HostName) (a : Access) (r q : Reply) (fails : ℕ → Bool) → Answers b t.history fails (Some (line.Access a)) r → Answers b t.history fails (Some (line.Access a)) q
     → Legal b (guest_line_on_any b t (Some n) (line.Access a) r).history → Legal b (guest_line_on_any b t (Some n) (line.Access a) q).history → r ≡ q
-values_once b t n a (guest.Value v size) (guest.Value u other) fails one two here there =
-    ap (λ k. guest.Value k size) (here.1.1 ∙ sym there.1.1) ∙ ap (guest.Value u) (one.1 ∙ sym two.1)
-values_once b t n a guest.Accepted guest.Accepted fails one two here there = refl
-values_once b t n a (guest.Value v size) guest.Accepted fails one two here there = absurd (none a.write one.0 two)
+values_once b t n a (reply.Value v size) (reply.Value u other) fails one two here there =
+    ap (λ k. reply.Value k size) (here.1.1 ∙ sym there.1.1) ∙ ap (reply.Value u) (one.1 ∙ sym two.1)
+values_once b t n a reply.Accepted reply.Accepted fails one two here there = refl
+values_once b t n a (reply.Value v size) reply.Accepted fails one two here there = absurd (none a.write one.0 two)
   where
     none : (w : Option ℕ) → w ≡ None → IsSome w → ⊥
     none None is some = cc
     none (Some x) is some = cc
-values_once b t n a guest.Accepted (guest.Value u other) fails one two here there = absurd (none a.write two.0 one)
+values_once b t n a reply.Accepted (reply.Value u other) fails one two here there = absurd (none a.write two.0 one)
   where
     none : (w : Option ℕ) → w ≡ None → IsSome w → ⊥
     none None is some = cc
     none (Some x) is some = cc
-values_once b t n a (guest.Value v size) _ fails one two here there = absurd two
-values_once b t n a guest.Accepted _ fails one two here there = absurd two
+values_once b t n a (reply.Value v size) _ fails one two here there = absurd two
+values_once b t n a reply.Accepted _ fails one two here there = absurd two
 values_once b t n a _ _ fails one two here there = absurd one
 
 -- an access
 access_once : (b : Base) (t : TwoHosts) (found : Option HostName) (a : Access) (r q : Reply) → AnswersOn b t found (line.Access a) r → AnswersOn b t found (line.Access a) q
-    → ((r' : GuestReply) → r ≡ reply.Guest r' → Legal b (guest_line_on_any b t found (line.Access a) r').history) → ((q' : GuestReply) → q ≡ reply.Guest q' → Legal b (guest_line_on_any b t found (line.Access a) q').history) → r ≡ q
+    → Legal b (guest_line_on_any b t found (line.Access a) r).history → Legal b (guest_line_on_any b t found (line.Access a) q).history → r ≡ q
 access_once b t None a r q one two here there = one ∙ sym two
-access_once b t (Some n) a (reply.Guest r) (reply.Guest q) one two here there = ap reply.Guest (values_once b t n a r q (fails_at (host_of t n)) one two (here r refl) (there q refl))
-access_once b t (Some n) a (reply.Guest r) _ one two here there = absurd two
-access_once b t (Some n) a _ _ one two here there = absurd one
+access_once b t (Some n) a r q one two here there = values_once b t n a r q (fails_at (host_of t n)) one two here there
 
 -- the others: each has its one reply
-on_once : (b : Base) (t : TwoHosts) (found : Option HostName) (l : Event) (due : (ℕ → Bool) → GuestReply) (r q : Reply) → ((n : HostName) (fails : ℕ → Bool) (x : GuestReply) → Answers b t.history fails (Some l) x → x ≡ due fails) → AnswersOn b t found l r → AnswersOn b t found l q → r ≡ q
+on_once : (b : Base) (t : TwoHosts) (found : Option HostName) (l : Event) (due : (ℕ → Bool) → Reply) (r q : Reply) → ((fails : ℕ → Bool) (x : Reply) → Answers b t.history fails (Some l) x → x ≡ due fails) → AnswersOn b t found l r → AnswersOn b t found l q → r ≡ q
 on_once b t None l due r q only one two = one ∙ sym two
-on_once b t (Some n) l due (reply.Guest r) (reply.Guest q) only one two = ap reply.Guest (only n _ r one ∙ sym (only n _ q two))
-on_once b t (Some n) l due (reply.Guest r) _ only one two = absurd two
-on_once b t (Some n) l due _ _ only one two = absurd one
+on_once b t (Some n) l due r q only one two = only (fails_at (host_of t n)) r one ∙ sym (only (fails_at (host_of t n)) q two)
 
-guest_once : (b : Base) (t : TwoHosts) (l : Event) (r q : Reply) → AnswersGuest b t l r → AnswersGuest b t l q → Legal b (after_guest b t l r).history → Legal b (after_guest b t l q).history → r ≡ q
-guest_once b t (line.Fail host call) r q one two here there = one ∙ sym two
-guest_once b t (line.Access a) r q one two here there = access_once b t (running_host t) a r q one two
-    (λ x is. subst (λ z. Legal b (after_guest b t (line.Access a) z).history) is here) (λ x is. subst (λ z. Legal b (after_guest b t (line.Access a) z).history) is there)
-guest_once b t line.Work r q one two here there = on_once b t (running_host t) line.Work (turn b t.history) r q (λ n fails x is. is) one two
-guest_once b t line.Ask r q one two here there = on_once b t (running_host t) line.Ask ask_reply r q (λ n fails x is. is) one two
-guest_once b t line.Reset r q one two here there = on_once b t (running_host t) line.Reset (reset_reply b t.history) r q (λ n fails x is. is) one two
-
-reply_once : (b : Base) (piece : ℕ) (t : TwoHosts) (l : Option Line) (r q : Reply) → AnswersIn b piece t l r → AnswersIn b piece t l q → Legal b (after_exchange b piece t l r).history → Legal b (after_exchange b piece t l q).history → r ≡ q
+reply_once : (b : Base) (piece : ℕ) (t : TwoHosts) (l : Option Event) (r q : Reply) → AnswersIn b piece t l r → AnswersIn b piece t l q → Legal b (after_exchange b piece t l r).history → Legal b (after_exchange b piece t l q).history → r ≡ q
 reply_once b piece t None r q one two here there = absurd one
-reply_once b piece t (Some (Guest e)) r q one two here there = guest_once b t e r q one two here there
+reply_once b piece t (Some (line.Fail host call)) r q one two here there = one ∙ sym two
+reply_once b piece t (Some (line.Access a)) r q one two here there = access_once b t (running_host t) a r q one two here there
+reply_once b piece t (Some line.Work) r q one two here there = on_once b t (running_host t) line.Work (turn b t.history) r q (λ fails x is. is) one two
+reply_once b piece t (Some line.Ask) r q one two here there = on_once b t (running_host t) line.Ask ask_reply r q (λ fails x is. is) one two
+reply_once b piece t (Some line.Reset) r q one two here there = on_once b t (running_host t) line.Reset (reset_reply b t.history) r q (λ fails x is. is) one two
 reply_once b piece t (Some Offer) r q one two here there = one ∙ sym two
 reply_once b piece t (Some (Deliver k)) r q one two here there = one ∙ sym two
 reply_once b piece t (Some GiveUp) r q one two here there = one ∙ sym two
@@ -73,32 +62,24 @@ reply_once b piece t (Some (Show k)) r q one two here there = one ∙ sym two
 
 -- ---- a front of a legal history is legal
 
-event_before : (b : Base) (l : Event) (r : GuestReply) (fails : ℕ → Bool) (p : History) → Legal b (with_event (Some l) r fails p) → Legal b p
-event_before b (line.Access a) (guest.Value v size) fails p h = h.0
-event_before b (line.Access a) guest.Accepted fails p h = h.0
-event_before b line.Work (guest.Claim k) fails p h = h.0
-event_before b line.Work (guest.Sent k) fails p h = h.0
-event_before b line.Work (guest.Exec k) fails p h = h.0
-event_before b line.Work (guest.Done k) fails p h = h.0
-event_before b line.Work (guest.Cancelled k) fails p h = h.0
-event_before b line.Work (guest.Lost k) fails p h = h.0
-event_before b line.Ask guest.Asked fails p h = h.0
-event_before b line.Ask guest.Link fails p h = h.0
-event_before b line.Reset guest.Reset fails p h = h.0
-event_before b line.Reset guest.Link fails p h = h.0
+event_before : (b : Base) (l : Event) (r : Reply) (fails : ℕ → Bool) (p : History) → Legal b (with_event (Some l) r fails p) → Legal b p
+event_before b (line.Access a) (reply.Value v size) fails p h = h.0
+event_before b (line.Access a) reply.Accepted fails p h = h.0
+event_before b line.Work (reply.Claim k) fails p h = h.0
+event_before b line.Work (reply.Sent k) fails p h = h.0
+event_before b line.Work (reply.Exec k) fails p h = h.0
+event_before b line.Work (reply.Done k) fails p h = h.0
+event_before b line.Work (reply.Cancelled k) fails p h = h.0
+event_before b line.Work (reply.Lost k) fails p h = h.0
+event_before b line.Ask reply.Asked fails p h = h.0
+event_before b line.Ask reply.Link fails p h = h.0
+event_before b line.Reset reply.Reset fails p h = h.0
+event_before b line.Reset reply.Link fails p h = h.0
 event_before b _ _ fails p h = h
 
-on_before : (b : Base) (t : TwoHosts) (found : Option HostName) (l : Event) (r : GuestReply) → Legal b (guest_line_on_any b t found l r).history → Legal b t.history
+on_before : (b : Base) (t : TwoHosts) (found : Option HostName) (l : Event) (r : Reply) → Legal b (guest_line_on_any b t found l r).history → Legal b t.history
 on_before b t None l r h = h
 on_before b t (Some n) l r h = event_before b l r (fails_at (host_of t n)) t.history h
-
-guest_before : (b : Base) (t : TwoHosts) (l : Event) (r : Reply) → Legal b (after_guest b t l r).history → Legal b t.history
-guest_before b t (line.Fail host call) (reply.Guest r) h = event_before b (line.Fail host call) r (fails_at (host_of t host)) t.history h
-guest_before b t (line.Access a) (reply.Guest r) h = on_before b t (running_host t) (line.Access a) r h
-guest_before b t line.Work (reply.Guest r) h = on_before b t (running_host t) line.Work r h
-guest_before b t line.Ask (reply.Guest r) h = on_before b t (running_host t) line.Ask r h
-guest_before b t line.Reset (reply.Guest r) h = on_before b t (running_host t) line.Reset r h
-guest_before b t l _ h = h
 
 offers_before : (b : Base) (t : TwoHosts) (found : Option HostName) (r : Reply) → Legal b (after_offer b t found r).history → Legal b t.history
 offers_before b t None r h = h
@@ -117,9 +98,13 @@ says_before : (b : Base) (t : TwoHosts) (found : Option HostName) → Legal b (a
 says_before b t None h = h
 says_before b t (Some n) h = h
 
-exchange_before : (b : Base) (piece : ℕ) (t : TwoHosts) (l : Option Line) (r : Reply) → Legal b (after_exchange b piece t l r).history → Legal b t.history
+exchange_before : (b : Base) (piece : ℕ) (t : TwoHosts) (l : Option Event) (r : Reply) → Legal b (after_exchange b piece t l r).history → Legal b t.history
 exchange_before b piece t None r h = h
-exchange_before b piece t (Some (Guest e)) r h = guest_before b t e r h
+exchange_before b piece t (Some (line.Fail host call)) r h = event_before b (line.Fail host call) r (fails_at (host_of t host)) t.history h
+exchange_before b piece t (Some (line.Access a)) r h = on_before b t (running_host t) (line.Access a) r h
+exchange_before b piece t (Some line.Work) r h = on_before b t (running_host t) line.Work r h
+exchange_before b piece t (Some line.Ask) r h = on_before b t (running_host t) line.Ask r h
+exchange_before b piece t (Some line.Reset) r h = on_before b t (running_host t) line.Reset r h
 exchange_before b piece t (Some Offer) r h = offers_before b t (running_host t) r h
 exchange_before b piece t (Some (Deliver k)) r h = comes_before b piece t (message_at t.sent k) r h
 exchange_before b piece t (Some GiveUp) r h = gives_before b t (host_where is_offering t) h
@@ -146,8 +131,8 @@ runs_are_one b piece (x ∷ t) (y ∷ u) lines one two =
     let reply_is : x.reply ≡ y.reply = reply_once b piece (hosts_after b piece t) x.line x.reply y.reply one.in_turn.1 answers one.legal legal in
     ap (λ (k : Exchange). k ∷ t) (same_exchange x y line_is reply_is) ∙ ap (λ (k : Transcript). y ∷ k) rest
   where
-    heads : (a c : Option Line) (l k : List (Option Line)) → a ∷ l ≡ c ∷ k → a ≡ c
+    heads : (a c : Option Event) (l k : List (Option Event)) → a ∷ l ≡ c ∷ k → a ≡ c
     heads a c l k is = cc
 
-    tails : (a c : Option Line) (l k : List (Option Line)) → a ∷ l ≡ c ∷ k → l ≡ k
+    tails : (a c : Option Event) (l k : List (Option Event)) → a ∷ l ≡ c ∷ k → l ≡ k
     tails a c l k is = cc

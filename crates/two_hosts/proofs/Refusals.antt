@@ -17,8 +17,8 @@ use Rattle.move_core.specs.declared.answers.Delivered.{Delivered}
 use Rattle.move_core.specs.declared.answers.Delivered.TheVariants as delivers
 use Rattle.move_core.specs.Sides.{side_of, is_active, total_of, part_after, first_bad}
 use Rattle.move_core.specs.Table.{is_next}
-use Rattle.two_hosts.specs.declared.reply.Reply.{Reply}
-use Rattle.two_hosts.specs.declared.reply.Reply.TheVariants as reply
+use Rattle.vt_script.specs.declared.reply.Reply.{Reply}
+use Rattle.vt_script.specs.declared.reply.Reply.TheVariants as reply
 use Rattle.two_hosts.specs.Parts.{totals_of}
 use Rattle.two_hosts.specs.Deliveries.{SideState, Outcome, DeliveryContext, delivered, on_offer, on_need, on_piece, on_prepared, on_commit, on_abort, on_refuse, takes_offer, goes_to}
 use Rattle.two_hosts.specs.Hosts.{TwoHosts, context_for, message_at}

@@ -13,7 +13,7 @@ use Rattle.move_core.specs.declared.side.Side.TheVariants.{Empty, Running, Offer
 use Rattle.move_core.specs.declared.answers.Delivered.TheVariants as delivers
 use Rattle.move_core.specs.Sides.{side_of}
 use Rattle.move_core.specs.Table.{message_from}
-use Rattle.two_hosts.specs.declared.reply.Reply.TheVariants as reply
+use Rattle.vt_script.specs.declared.reply.Reply.TheVariants as reply
 use Rattle.two_hosts.specs.Deliveries.{SideState, Outcome, DeliveryContext, ignored, sends, delivered, on_prepared, on_commit, calls_at}
 use Rattle.two_hosts.specs.Hosts.{TwoHosts, HostState, host_of, with_host, with_outcome, counted, context_for, after_message, after_delivery, next_number}
 use Rattle.two_hosts.specs.Replies.{deliver_reply, delivery_reply, meets_fault}
@@ -82,12 +82,12 @@ pub stale_is_ignored : (piece : ℕ) (t : TwoHosts) (m : Message) → IsStale (s
 stale_is_ignored piece t m stale = (ignored_reply piece t m stale, nothing_changed piece t m stale)
 
 pub commits_again : (piece : ℕ) (t : TwoHosts) (m : Message) → m.body ≡ body.Prepared → shown_side (side_at t m.to) ≡ Released m.epoch
-    → (deliver_reply piece t (Some m) ≡ reply.Sent (next_number t.sent))
-    × (after_delivery piece t (Some m) (reply.Sent (next_number t.sent)) ≡ record t { sent = t.sent ++ message_from m.to m.epoch body.Commit ∷ [] })
+    → (deliver_reply piece t (Some m) ≡ reply.SentMessage (next_number t.sent))
+    × (after_delivery piece t (Some m) (reply.SentMessage (next_number t.sent)) ≡ record t { sent = t.sent ++ message_from m.to m.epoch body.Commit ∷ [] })
 commits_again piece t m prepared released = (
   ap (λ (o : Outcome). delivery_reply t.sent o.answer) (sends_commit (meets_fault piece t m)),
-  ap (λ (o : Outcome). with_outcome t m.to (counted (reply.Sent (next_number t.sent)) (calls_at m.body o.side.stage o.answer) (host_of t m.to)) o) (sends_commit false)
-      ∙ ap (λ b. record (with_host t m.to (counted (reply.Sent (next_number t.sent)) (calls_at b (side_at t m.to).stage (delivers.Sent (message_from m.to m.epoch body.Commit))) (host_of t m.to))) { sent = t.sent ++ message_from m.to m.epoch body.Commit ∷ [] }) prepared
+  ap (λ (o : Outcome). with_outcome t m.to (counted (reply.SentMessage (next_number t.sent)) (calls_at m.body o.side.stage o.answer) (host_of t m.to)) o) (sends_commit false)
+      ∙ ap (λ b. record (with_host t m.to (counted (reply.SentMessage (next_number t.sent)) (calls_at b (side_at t m.to).stage (delivers.Sent (message_from m.to m.epoch body.Commit))) (host_of t m.to))) { sent = t.sent ++ message_from m.to m.epoch body.Commit ∷ [] }) prepared
       ∙ ap (λ (h : HostState). record (with_host t m.to h) { sent = t.sent ++ message_from m.to m.epoch body.Commit ∷ [] }) (uncounted (host_of t m.to))
       ∙ replaced t m.to (t.sent ++ message_from m.to m.epoch body.Commit ∷ []),
 )

@@ -5,11 +5,11 @@ use Rattle.std.proofs.lemmas.Bool.{cond_both, cond-true, cond-false}
 use Rattle.crb_history.specs.Base.{Base}
 use Rattle.crb_history.specs.Continued.{base_after}
 use Rattle.crb_history.specs.Device.{phase_of}
-use Rattle.crb_history.specs.Replies.{is_under_way}
+use Rattle.crb_history.specs.Replies.{is_under_way, Transcript, is_fault}
 use Rattle.crb_regs.specs.Registers.{is_lost}
 use Rattle.vt_script.specs.declared.event.Event.{Event}
 use Rattle.vt_script.specs.declared.event.Event.TheVariants as line
-use Rattle.vt_script.specs.declared.reply.Reply.{Reply as GuestReply}
+use Rattle.vt_script.specs.declared.reply.Reply.{Reply}
 use Rattle.move_codec.specs.declared.names.HostName.{HostName}
 use Rattle.move_codec.specs.declared.names.HostName.TheVariants.{A, B}
 use Rattle.move_codec.specs.declared.message.Message.{Message}
@@ -18,16 +18,15 @@ use Rattle.move_core.specs.declared.side.Side.TheVariants.{Empty, Running, Offer
 use Rattle.move_core.specs.declared.answers.Delivered.{Delivered}
 use Rattle.move_core.specs.declared.answers.Delivered.TheVariants as delivers
 use Rattle.move_core.specs.Sides.{other, side_of, is_running}
-use Rattle.two_hosts.specs.declared.line.Line.{Line}
-use Rattle.two_hosts.specs.declared.line.Line.TheVariants.{Guest, Offer, Deliver, GiveUp, Again, Show}
-use Rattle.two_hosts.specs.declared.reply.Reply.{Reply}
-use Rattle.two_hosts.specs.declared.reply.Reply.TheVariants as reply
+use Rattle.vt_script.specs.declared.event.Event.TheVariants.{Offer, Deliver, GiveUp, Again, Show}
+use Rattle.vt_script.specs.declared.reply.Reply.TheVariants as reply
 use Rattle.two_hosts.specs.Deliveries.{Outcome, delivered, calls_of_delivery}
-use Rattle.two_hosts.specs.Hosts.{fails_at, next_number, TwoHosts, HostState, Transcript, hosts_after, first_hosts, host_of, stage_at, with_host, with_outcome, host_where, running_host, is_offering, is_prepared, message_at, context_for, counted, is_fault, after_message, after_delivery, after_offer, offered_by, after_give_up, after_again, guest_line, guest_line_on, guest_line_on_any, after_guest, after_line, after_exchange}
-use Rattle.two_hosts.specs.Replies.{AnswersIn, AnswersLine, AnswersGuest, AnswersOn, InTurn, offer_reply, deliver_reply, delivery_reply, meets_fault, give_up_reply, again_reply, show_reply}
+use Rattle.two_hosts.specs.Hosts.{fails_at, next_number, TwoHosts, HostState, hosts_after, first_hosts, host_of, stage_at, with_host, with_outcome, host_where, running_host, is_offering, is_prepared, message_at, context_for, counted, after_message, after_delivery, after_offer, offered_by, after_give_up, after_again, guest_line_on, guest_line_on_any, after_line, after_exchange}
+use Rattle.two_hosts.specs.Replies.{AnswersIn, AnswersLine, AnswersOn, InTurn, offer_reply, deliver_reply, delivery_reply, meets_fault, give_up_reply, again_reply, show_reply}
 use Rattle.two_hosts.specs.Invariant.{HostsInvariant, IsHolder, IsPassive, side_at, shown_side}
 use Rattle.two_hosts.specs.RunningSet.{RunningSet, contains, insert, without_source, after_reply, running_set}
 use Rattle.two_hosts.proofs.InvariantKept.{host_where_cases, running_stage, offering_stage, run_kept}
+use Rattle.two_hosts.proofs.GuestReplies.{IsOfDevice, replies_of_device}
 use Rattle.two_hosts.proofs.RestActs as rest
 use Rattle.two_hosts.proofs.Shifts.{runs_on, active_on, running_on, IsQuiet, IsWaiting, Shift, shift, quiet_or_same}
 use Rattle.two_hosts.proofs.Shifts.Shift.{same as kept_side, waits as now_waits, releases as now_released, runs as now_runs, resumes as now_resumes}
@@ -336,13 +335,26 @@ IsRefusal reply.Running = ⊥
 IsRefusal _ = Unit {0}
 
 refusal_reply : (q : Reply) (r : RunningSet) → IsRefusal q → after_reply q r ≡ r
-refusal_reply (reply.Guest answer) r h = refl
+refusal_reply (reply.Value value size) r h = refl
+refusal_reply reply.Accepted r h = refl
+refusal_reply reply.Idle r h = refl
+refusal_reply (reply.Claim number) r h = refl
+refusal_reply (reply.Sent number) r h = refl
+refusal_reply (reply.Exec number) r h = refl
+refusal_reply (reply.Done number) r h = refl
+refusal_reply (reply.Cancelled number) r h = refl
+refusal_reply (reply.Lost number) r h = refl
+refusal_reply reply.Link r h = refl
+refusal_reply reply.Asked r h = refl
+refusal_reply reply.FailedDevice r h = refl
+refusal_reply reply.NotYet r h = refl
+refusal_reply reply.Reset r h = refl
 refusal_reply reply.Stopped r h = refl
 refusal_reply reply.EpochEnd r h = refl
 refusal_reply reply.NoMessage r h = refl
 refusal_reply reply.Ignored r h = refl
 refusal_reply reply.Took r h = refl
-refusal_reply (reply.Sent message) r h = refl
+refusal_reply (reply.SentMessage message) r h = refl
 refusal_reply (reply.RefusedSent why message) r h = refl
 refusal_reply reply.NotOffering r h = refl
 refusal_reply reply.NotPrepared r h = refl
@@ -400,50 +412,35 @@ give_up_agrees t n r old is =
 
 -- ---- a line of the guest
 
-guest_sides : (b : Base) (t : TwoHosts) (n k : HostName) (e : Event) (g : GuestReply) → shown (guest_line_on b t n e g) k ≡ shown t k
+guest_sides : (b : Base) (t : TwoHosts) (n k : HostName) (e : Event) (g : Reply) → shown (guest_line_on b t n e g) k ≡ shown t k
 guest_sides b t A A e g = refl
 guest_sides b t A B e g = refl
 guest_sides b t B A e g = refl
 guest_sides b t B B e g = refl
 
-any_sides : (b : Base) (t : TwoHosts) (found : Option HostName) (e : Event) (g : GuestReply) (k : HostName) → shown (guest_line_on_any b t found e g) k ≡ shown t k
-any_sides b t None e g k = refl
-any_sides b t (Some n) e g k = guest_sides b t n k e g
+of_device : (q : Reply) (r : RunningSet) → IsOfDevice q → after_reply q r ≡ r
+of_device (reply.Offered e m) r is = absurd is
+of_device reply.Resumed r is = absurd is
+of_device (reply.ResumedSent m) r is = absurd is
+of_device reply.Running r is = absurd is
+of_device _ r is = refl
 
-event_sides : (b : Base) (t : TwoHosts) (e : Event) (g : GuestReply) (k : HostName) → shown (guest_line b t e g) k ≡ shown t k
-event_sides b t (line.Fail host call) g k = guest_sides b t host k (line.Fail host call) g
-event_sides b t (line.Access a) g k = any_sides b t (running_host t) (line.Access a) g k
-event_sides b t line.Work g k = any_sides b t (running_host t) line.Work g k
-event_sides b t line.Ask g k = any_sides b t (running_host t) line.Ask g k
-event_sides b t line.Reset g k = any_sides b t (running_host t) line.Reset g k
+on_agrees : (b : Base) (t : TwoHosts) (found : Option HostName) (e : Event) (q : Reply) (r : RunningSet) → Agrees t r → AnswersOn b t found e q → Agrees (guest_line_on_any b t found e q) (after_reply q r)
+on_agrees b t None e q r old is = subst (λ a. Agrees t (after_reply a r)) (sym is) old
+on_agrees b t (Some n) e q r old is =
+    subst (Agrees (guest_line_on b t n e q)) (sym (of_device q r (replies_of_device b t.history (fails_at (host_of t n)) e q is))) (same_sides t _ r (λ k. guest_sides b t n k e q) old)
 
--- a reply to the guest
-abbrev IsGuestReply : Reply → Type 0
-IsGuestReply (reply.Guest g) = Unit {0}
-IsGuestReply reply.Stopped = Unit {0}
-IsGuestReply _ = ⊥
-
-on_replies : (b : Base) (t : TwoHosts) (found : Option HostName) (e : Event) (q : Reply) → AnswersOn b t found e q → IsGuestReply q
-on_replies b t None e q is = subst IsGuestReply (sym is) tt
-on_replies b t (Some n) e (reply.Guest g) is = tt
-on_replies b t (Some n) e _ is = absurd is
-
-guest_replies : (b : Base) (t : TwoHosts) (e : Event) (q : Reply) → AnswersGuest b t e q → IsGuestReply q
-guest_replies b t (line.Fail host call) q is = subst IsGuestReply (sym is) tt
-guest_replies b t (line.Access a) q is = on_replies b t (running_host t) (line.Access a) q is
-guest_replies b t line.Work q is = on_replies b t (running_host t) line.Work q is
-guest_replies b t line.Ask q is = on_replies b t (running_host t) line.Ask q is
-guest_replies b t line.Reset q is = on_replies b t (running_host t) line.Reset q is
-
-guest_agrees : (b : Base) (t : TwoHosts) (e : Event) (q : Reply) (r : RunningSet) → Agrees t r → IsGuestReply q → Agrees (after_guest b t e q) (after_reply q r)
-guest_agrees b t e (reply.Guest g) r old h = same_sides t _ r (event_sides b t e g) old
-guest_agrees b t e reply.Stopped r old h = old
-guest_agrees b t e _ r old h = absurd h
+fault_agrees : (b : Base) (t : TwoHosts) (n : HostName) (call : ℕ) (q : Reply) (r : RunningSet) → Agrees t r → q ≡ reply.Accepted → Agrees (guest_line_on b t n (line.Fail n call) q) (after_reply q r)
+fault_agrees b t n call q r old is = subst (λ a. Agrees (guest_line_on b t n (line.Fail n call) q) (after_reply a r)) (sym is) (same_sides t _ r (λ k. guest_sides b t n k (line.Fail n call) q) old)
 
 -- ---- every line
 
-line_agrees : (b : Base) (piece : ℕ) (t : TwoHosts) (l : Line) (q : Reply) (r : RunningSet) → Agrees t r → HostsInvariant b t → HostsInvariant b (after_line b piece t l q) → AnswersLine b piece t l q → Agrees (after_line b piece t l q) (after_reply q r)
-line_agrees b piece t (Guest e) q r old kept then answers = guest_agrees b t e q r old (guest_replies b t e q answers)
+line_agrees : (b : Base) (piece : ℕ) (t : TwoHosts) (l : Event) (q : Reply) (r : RunningSet) → Agrees t r → HostsInvariant b t → HostsInvariant b (after_line b piece t l q) → AnswersLine b piece t l q → Agrees (after_line b piece t l q) (after_reply q r)
+line_agrees b piece t (line.Access a) q r old kept then answers = on_agrees b t (running_host t) (line.Access a) q r old answers
+line_agrees b piece t line.Work q r old kept then answers = on_agrees b t (running_host t) line.Work q r old answers
+line_agrees b piece t line.Ask q r old kept then answers = on_agrees b t (running_host t) line.Ask q r old answers
+line_agrees b piece t line.Reset q r old kept then answers = on_agrees b t (running_host t) line.Reset q r old answers
+line_agrees b piece t (line.Fail host call) q r old kept then answers = fault_agrees b t host call q r old answers
 line_agrees b piece t Offer q r old kept then answers = host_where_cases is_running t (λ found. q ≡ offer_reply b t found → Agrees (after_offer b t found q) (after_reply q r))
     (λ n is at. offer_agrees b t n q r old kept (ap side_of (running_stage (stage_at t n) is)) at) (λ at. subst (λ a. Agrees t (after_reply a r)) (sym at) old) answers
 line_agrees b piece t (Deliver k) q r old kept then answers = deliver_agrees b piece t (message_at t.sent k) q r old kept then answers
@@ -472,7 +469,7 @@ first_agrees b = record { runs = runs; offers = offers; released = released }
     released A e h at = refl
     released B e h at = absurd cc
 
-exchange_agrees : (b : Base) (piece : ℕ) (t : TwoHosts) (l : Option Line) (q : Reply) (r : RunningSet) → Agrees t r → HostsInvariant b t → HostsInvariant b (after_exchange b piece t l q) → AnswersIn b piece t l q → Agrees (after_exchange b piece t l q) (after_reply q r)
+exchange_agrees : (b : Base) (piece : ℕ) (t : TwoHosts) (l : Option Event) (q : Reply) (r : RunningSet) → Agrees t r → HostsInvariant b t → HostsInvariant b (after_exchange b piece t l q) → AnswersIn b piece t l q → Agrees (after_exchange b piece t l q) (after_reply q r)
 exchange_agrees b piece t None q r old kept then answers = absurd answers
 exchange_agrees b piece t (Some l) q r old kept then answers = line_agrees b piece t l q r old kept then answers
 

@@ -4,7 +4,7 @@ use Rattle.std.specs.Prelude.{◌-◌, ◌^◌, ◌==◌, if◌then◌else◌}
 use Rattle.std.proofs.lemmas.Bool.{cond_both}
 use Rattle.crb_history.specs.Base.{Base}
 use Rattle.crb_history.specs.Device.{phase_of}
-use Rattle.crb_history.specs.Replies.{is_under_way}
+use Rattle.crb_history.specs.Replies.{is_under_way, Transcript}
 use Rattle.crb_regs.specs.Registers.{is_lost}
 use Rattle.vt_script.specs.declared.event.Event.{Event}
 use Rattle.vt_script.specs.declared.event.Event.TheVariants as line
@@ -14,13 +14,13 @@ use Rattle.move_codec.specs.declared.message.Message.{Message}
 use Rattle.move_core.specs.declared.answers.Delivered.{Delivered}
 use Rattle.move_core.specs.declared.answers.Delivered.TheVariants as delivers
 use Rattle.move_core.specs.Sides.{is_running}
-use Rattle.two_hosts.specs.declared.line.Line.{Line}
-use Rattle.two_hosts.specs.declared.line.Line.TheVariants.{Guest, Offer, Deliver, GiveUp, Again, Show}
-use Rattle.two_hosts.specs.declared.reply.Reply.{Reply}
-use Rattle.two_hosts.specs.declared.reply.Reply.TheVariants as reply
-use Rattle.two_hosts.specs.Hosts.{TwoHosts, Transcript, hosts_after, host_of, stage_at, host_where, running_host, is_offering, is_prepared, message_at, fails_at}
+use Rattle.vt_script.specs.declared.event.Event.TheVariants.{Offer, Deliver, GiveUp, Again, Show}
+use Rattle.vt_script.specs.declared.reply.Reply.{Reply}
+use Rattle.vt_script.specs.declared.reply.Reply.TheVariants as reply
+use Rattle.two_hosts.specs.Hosts.{TwoHosts, hosts_after, host_of, stage_at, host_where, running_host, is_offering, is_prepared, message_at, fails_at}
 use Rattle.two_hosts.specs.Replies.{AnswersLine, AnswersOn, InTurn, offer_reply, deliver_reply, delivery_reply, give_up_reply, again_reply, show_reply}
 use Rattle.two_hosts.specs.RunningSet.{is_empty, running_set, needs_running, is_stopped}
+use Rattle.two_hosts.proofs.GuestReplies.{IsOfDevice, replies_of_device}
 use Rattle.two_hosts.proofs.RunningSets.{runs_where}
 
 -- neither host runs
@@ -38,12 +38,12 @@ running_cases t P some none = found_cases (is_running t.a.side.stage) (is_runnin
 abbrev GoesOn : Reply → Type 0
 GoesOn q = is_stopped q ≡ false
 
+of_device : (q : Reply) → IsOfDevice q → GoesOn q
+of_device reply.Stopped is = absurd is
+of_device _ is = refl
+
 on_stopped : (b : Base) (t : TwoHosts) (e : Event) (q : Reply) → AnswersOn b t (running_host t) e q → is_stopped q ≡ none_runs t
-on_stopped b t e q answers = running_cases t (λ found none. AnswersOn b t found e q → is_stopped q ≡ none) (λ n. some n q) (λ is. ap is_stopped is) answers
-  where
-    some : (n : HostName) (q : Reply) → AnswersOn b t (Some n) e q → is_stopped q ≡ false
-    some n (reply.Guest g) is = refl
-    some n _ is = absurd is
+on_stopped b t e q answers = running_cases t (λ found none. AnswersOn b t found e q → is_stopped q ≡ none) (λ n is. of_device q (replies_of_device b t.history (fails_at (host_of t n)) e q is)) (λ is. ap is_stopped is) answers
 
 offer_goes_on : (b : Base) (t : TwoHosts) (n : HostName) → GoesOn (offer_reply b t (Some n))
 offer_goes_on b t n = cond_both (is_lost (phase_of b t.history)) _ _ GoesOn (λ yes. refl) (λ no.
@@ -79,19 +79,19 @@ show_goes_on : (found : Option Message) → GoesOn (show_reply found)
 show_goes_on None = refl
 show_goes_on (Some m) = refl
 
-line_stopped : (b : Base) (piece : ℕ) (t : TwoHosts) (l : Line) (q : Reply) → AnswersLine b piece t l q → is_stopped q ≡ (needs_running l && none_runs t)
-line_stopped b piece t (Guest (line.Access a)) q answers = on_stopped b t (line.Access a) q answers
-line_stopped b piece t (Guest line.Work) q answers = on_stopped b t line.Work q answers
-line_stopped b piece t (Guest line.Ask) q answers = on_stopped b t line.Ask q answers
-line_stopped b piece t (Guest line.Reset) q answers = on_stopped b t line.Reset q answers
-line_stopped b piece t (Guest (line.Fail host call)) q answers = ap is_stopped answers
+line_stopped : (b : Base) (piece : ℕ) (t : TwoHosts) (l : Event) (q : Reply) → AnswersLine b piece t l q → is_stopped q ≡ (needs_running l && none_runs t)
+line_stopped b piece t (line.Access a) q answers = on_stopped b t (line.Access a) q answers
+line_stopped b piece t line.Work q answers = on_stopped b t line.Work q answers
+line_stopped b piece t line.Ask q answers = on_stopped b t line.Ask q answers
+line_stopped b piece t line.Reset q answers = on_stopped b t line.Reset q answers
+line_stopped b piece t (line.Fail host call) q answers = ap is_stopped answers
 line_stopped b piece t Offer q answers = offer_stopped b t q answers
 line_stopped b piece t (Deliver k) q answers = ap is_stopped answers ∙ deliver_goes_on piece t (message_at t.sent k)
 line_stopped b piece t GiveUp q answers = ap is_stopped answers ∙ give_up_goes_on t (host_where is_offering t)
 line_stopped b piece t Again q answers = ap is_stopped answers ∙ again_goes_on t (host_where is_prepared t)
 line_stopped b piece t (Show k) q answers = ap is_stopped answers ∙ show_goes_on (message_at t.sent k)
 
-pub stopped_where_empty : (b : Base) (piece : ℕ) (t : Transcript) (l : Line) (q : Reply) → InTurn b piece t → AnswersLine b piece (hosts_after b piece t) l q
+pub stopped_where_empty : (b : Base) (piece : ℕ) (t : Transcript) (l : Event) (q : Reply) → InTurn b piece t → AnswersLine b piece (hosts_after b piece t) l q
     → is_stopped q ≡ (needs_running l && is_empty (running_set t))
 stopped_where_empty b piece t l q in_turn answers =
     let w = hosts_after b piece t in

@@ -4,8 +4,9 @@ use Rattle.crb_history.specs.Base.{Base, IsFitBase}
 use Rattle.move_codec.specs.declared.names.Reason.{Reason}
 use Rattle.move_codec.specs.declared.names.Reason.TheVariants as reason
 use Rattle.move_codec.specs.declared.message.Message.{Message}
-use Rattle.two_hosts.specs.declared.reply.Reply.TheVariants as reply
-use Rattle.two_hosts.specs.Hosts.{Transcript, hosts_after, message_at, is_fault}
+use Rattle.vt_script.specs.declared.reply.Reply.TheVariants as reply
+use Rattle.two_hosts.specs.Hosts.{hosts_after, message_at}
+use Rattle.crb_history.specs.Replies.{Transcript, is_fault}
 use Rattle.two_hosts.specs.Replies.{InTurn, deliver_reply, meets_fault}
 use Rattle.two_hosts.proofs.InvariantKept.{run_kept, in_bag_sent}
 use Rattle.two_hosts.proofs.Refusals.{refusals_by_calls}

@@ -6,10 +6,10 @@ use Rattle.crb_regs.specs.Registers.{is_lost}
 use Rattle.crb_history.specs.Base.{Base}
 use Rattle.crb_history.specs.Continued.{base_after}
 use Rattle.crb_history.specs.Device.{phase_of}
-use Rattle.crb_history.specs.Replies.{is_under_way}
+use Rattle.crb_history.specs.Replies.{is_under_way, Transcript, is_fault}
 use Rattle.vt_script.specs.declared.event.Event.{Event}
 use Rattle.vt_script.specs.declared.event.Event.TheVariants as line
-use Rattle.vt_script.specs.declared.reply.Reply.{Reply as GuestReply}
+use Rattle.vt_script.specs.declared.reply.Reply.{Reply}
 use Rattle.move_codec.specs.declared.names.HostName.{HostName}
 use Rattle.move_codec.specs.declared.names.HostName.TheVariants.{A, B}
 use Rattle.move_codec.specs.declared.names.Part.{Part}
@@ -20,12 +20,10 @@ use Rattle.move_core.specs.declared.stage.MoveStage.{MoveStage}
 use Rattle.move_core.specs.declared.stage.MoveStage.TheVariants as stage
 use Rattle.move_core.specs.Sides.{is_active, is_running, total_of, part_after, first_bad}
 use Rattle.move_core.specs.Table.{is_next}
-use Rattle.two_hosts.specs.declared.line.Line.{Line}
-use Rattle.two_hosts.specs.declared.line.Line.TheVariants.{Guest, Offer, Deliver, GiveUp, Again, Show}
-use Rattle.two_hosts.specs.declared.reply.Reply.{Reply}
-use Rattle.two_hosts.specs.declared.reply.Reply.TheVariants as reply
+use Rattle.vt_script.specs.declared.event.Event.TheVariants.{Offer, Deliver, GiveUp, Again, Show}
+use Rattle.vt_script.specs.declared.reply.Reply.TheVariants as reply
 use Rattle.two_hosts.specs.Deliveries.{SideState, Outcome, DeliveryContext, delivered, on_offer, on_need, on_piece, on_prepared, on_commit, on_abort, on_refuse, takes_offer, goes_to, calls_of_delivery}
-use Rattle.two_hosts.specs.Hosts.{TwoHosts, HostState, Transcript, hosts_after, host_of, with_host, with_outcome, host_where, running_host, is_offering, is_prepared, message_at, fails_at, context_for, is_fault, counted, after_delivery, after_offer, offered_by, after_give_up, after_again, guest_line, guest_line_on, guest_line_on_any, after_guest, after_line, after_exchange}
+use Rattle.two_hosts.specs.Hosts.{TwoHosts, HostState, hosts_after, host_of, with_host, with_outcome, host_where, running_host, is_offering, is_prepared, message_at, fails_at, context_for, counted, after_delivery, after_offer, offered_by, after_give_up, after_again, guest_line_on, guest_line_on_any, after_line, after_exchange}
 use Rattle.two_hosts.specs.Replies.{InTurn, offer_reply}
 use Rattle.two_hosts.specs.Invariant.{HostsInvariant, IsSent, side_at}
 use Rattle.two_hosts.proofs.InvariantKept.{run_kept, in_bag_sent, host_where_cases}
@@ -151,34 +149,27 @@ again_low : (t : TwoHosts) (k : ℕ) (found : Option HostName) → AreBelow t k 
 again_low t k None low = later t k low
 again_low t k (Some n) low = record { a = omega (arith, low.a); b = omega (arith, low.b) }
 
-guest_low : (b : Base) (t : TwoHosts) (k : ℕ) (n : HostName) (e : Event) (g : GuestReply) → AreBelow t k → AreBelow (guest_line_on b t n e g) (suc k)
+guest_low : (b : Base) (t : TwoHosts) (k : ℕ) (n : HostName) (e : Event) (g : Reply) → AreBelow t k → AreBelow (guest_line_on b t n e g) (suc k)
 guest_low b t k A e g low = record { a = omega (arith, low.a); b = omega (arith, low.b) }
 guest_low b t k B e g low = record { a = omega (arith, low.a); b = omega (arith, low.b) }
 
-any_low : (b : Base) (t : TwoHosts) (k : ℕ) (found : Option HostName) (e : Event) (g : GuestReply) → AreBelow t k → AreBelow (guest_line_on_any b t found e g) (suc k)
+any_low : (b : Base) (t : TwoHosts) (k : ℕ) (found : Option HostName) (e : Event) (g : Reply) → AreBelow t k → AreBelow (guest_line_on_any b t found e g) (suc k)
 any_low b t k None e g low = later t k low
 any_low b t k (Some n) e g low = guest_low b t k n e g low
 
-event_low : (b : Base) (t : TwoHosts) (k : ℕ) (e : Event) (g : GuestReply) → AreBelow t k → AreBelow (guest_line b t e g) (suc k)
-event_low b t k (line.Fail host call) g low = guest_low b t k host (line.Fail host call) g low
-event_low b t k (line.Access a) g low = any_low b t k (running_host t) (line.Access a) g low
-event_low b t k line.Work g low = any_low b t k (running_host t) line.Work g low
-event_low b t k line.Ask g low = any_low b t k (running_host t) line.Ask g low
-event_low b t k line.Reset g low = any_low b t k (running_host t) line.Reset g low
-
-after_guest_low : (b : Base) (t : TwoHosts) (k : ℕ) (e : Event) (q : Reply) → AreBelow t k → AreBelow (after_guest b t e q) (suc k)
-after_guest_low b t k e (reply.Guest g) low = event_low b t k e g low
-after_guest_low b t k e _ low = later t k low
-
-line_low : (b : Base) (piece : ℕ) (t : TwoHosts) (k : ℕ) (l : Line) (q : Reply) → HostsInvariant b t → AreBelow t k → AreBelow (after_line b piece t l q) (suc k)
-line_low b piece t k (Guest e) q kept low = after_guest_low b t k e q low
+line_low : (b : Base) (piece : ℕ) (t : TwoHosts) (k : ℕ) (l : Event) (q : Reply) → HostsInvariant b t → AreBelow t k → AreBelow (after_line b piece t l q) (suc k)
+line_low b piece t k (line.Access a) q kept low = any_low b t k (running_host t) (line.Access a) q low
+line_low b piece t k line.Work q kept low = any_low b t k (running_host t) line.Work q low
+line_low b piece t k line.Ask q kept low = any_low b t k (running_host t) line.Ask q low
+line_low b piece t k line.Reset q kept low = any_low b t k (running_host t) line.Reset q low
+line_low b piece t k (line.Fail host call) q kept low = guest_low b t k host (line.Fail host call) q low
 line_low b piece t k Offer q kept low = offer_low b t k (running_host t) q low
 line_low b piece t k (Deliver j) q kept low = deliver_low b piece t k (message_at t.sent j) q kept low (in_bag_sent t.sent j)
 line_low b piece t k GiveUp q kept low = give_up_low t k (host_where is_offering t) low
 line_low b piece t k Again q kept low = again_low t k (host_where is_prepared t) low
 line_low b piece t k (Show j) q kept low = later t k low
 
-exchange_low : (b : Base) (piece : ℕ) (t : TwoHosts) (k : ℕ) (l : Option Line) (q : Reply) → HostsInvariant b t → AreBelow t k → AreBelow (after_exchange b piece t l q) (suc k)
+exchange_low : (b : Base) (piece : ℕ) (t : TwoHosts) (k : ℕ) (l : Option Event) (q : Reply) → HostsInvariant b t → AreBelow t k → AreBelow (after_exchange b piece t l q) (suc k)
 exchange_low b piece t k None q kept low = later t k low
 exchange_low b piece t k (Some l) q kept low = line_low b piece t k l q kept low
 

@@ -13,7 +13,7 @@ use Rattle.tpm_core.specs.Steps.{IsFit}
 use Rattle.tpm_core.proofs.Law.{fit-past}
 use Rattle.vt_script.specs.declared.event.Event.{Event}
 use Rattle.vt_script.specs.declared.event.Event.TheVariants as line
-use Rattle.vt_script.specs.declared.reply.Reply.{Reply as GuestReply}
+use Rattle.vt_script.specs.declared.reply.Reply.{Reply}
 use Rattle.crb_history.specs.Base.{Base, IsFitBase}
 use Rattle.crb_history.specs.Bytes.{bytes_at}
 use Rattle.crb_history.specs.Event.{History}
@@ -23,12 +23,11 @@ use Rattle.move_codec.specs.declared.names.HostName.{HostName}
 use Rattle.move_codec.specs.declared.names.Part.TheVariants.{Record, Permanent, Volatile, Saved}
 use Rattle.move_codec.specs.declared.message.Message.{Message}
 use Rattle.move_core.specs.Sides.{first_bad, is_bad}
-use Rattle.two_hosts.specs.declared.line.Line.{Line}
-use Rattle.two_hosts.specs.declared.line.Line.TheVariants.{Guest, Offer, Deliver, GiveUp, Again, Show}
-use Rattle.two_hosts.specs.declared.reply.Reply.{Reply}
-use Rattle.two_hosts.specs.declared.reply.Reply.TheVariants as reply
+use Rattle.vt_script.specs.declared.event.Event.TheVariants.{Offer, Deliver, GiveUp, Again, Show}
+use Rattle.vt_script.specs.declared.reply.Reply.TheVariants as reply
 use Rattle.two_hosts.specs.Parts.{part_bytes, totals_of}
-use Rattle.two_hosts.specs.Hosts.{TwoHosts, Transcript, hosts_after, host_where, running_host, is_offering, is_prepared, message_at, after_delivery, after_offer, after_give_up, after_again, guest_line, guest_line_on_any, after_guest, after_line, after_exchange, with_offer}
+use Rattle.two_hosts.specs.Hosts.{TwoHosts, hosts_after, host_where, running_host, is_offering, is_prepared, message_at, after_delivery, after_offer, after_give_up, after_again, guest_line_on_any, after_line, after_exchange, with_offer}
+use Rattle.crb_history.specs.Replies.{Transcript}
 use Rattle.two_hosts.proofs.Refusals.{GoodTotals}
 
 record_size : (v : DeviceValues) → length (record_text v) ≡ 23 + length (trimmed v.content)
@@ -86,30 +85,23 @@ again_good : (t : TwoHosts) (found : Option HostName) → GoodTotals t.offered �
 again_good t None old = old
 again_good t (Some n) old = old
 
-any_good : (b : Base) (t : TwoHosts) (found : Option HostName) (e : Event) (g : GuestReply) → GoodTotals t.offered → GoodTotals (guest_line_on_any b t found e g).offered
+any_good : (b : Base) (t : TwoHosts) (found : Option HostName) (e : Event) (g : Reply) → GoodTotals t.offered → GoodTotals (guest_line_on_any b t found e g).offered
 any_good b t None e g old = old
 any_good b t (Some n) e g old = old
 
-event_good : (b : Base) (t : TwoHosts) (e : Event) (g : GuestReply) → GoodTotals t.offered → GoodTotals (guest_line b t e g).offered
-event_good b t (line.Fail host call) g old = old
-event_good b t (line.Access a) g old = any_good b t (running_host t) (line.Access a) g old
-event_good b t line.Work g old = any_good b t (running_host t) line.Work g old
-event_good b t line.Ask g old = any_good b t (running_host t) line.Ask g old
-event_good b t line.Reset g old = any_good b t (running_host t) line.Reset g old
-
-guest_good : (b : Base) (t : TwoHosts) (e : Event) (q : Reply) → GoodTotals t.offered → GoodTotals (after_guest b t e q).offered
-guest_good b t e (reply.Guest g) old = event_good b t e g old
-guest_good b t e _ old = old
-
-pub line_good : (b : Base) (piece : ℕ) (t : TwoHosts) (l : Line) (q : Reply) → IsFitBase b → GoodTotals t.offered → GoodTotals (after_line b piece t l q).offered
-line_good b piece t (Guest e) q fit old = guest_good b t e q old
+pub line_good : (b : Base) (piece : ℕ) (t : TwoHosts) (l : Event) (q : Reply) → IsFitBase b → GoodTotals t.offered → GoodTotals (after_line b piece t l q).offered
+line_good b piece t (line.Access a) q fit old = any_good b t (running_host t) (line.Access a) q old
+line_good b piece t line.Work q fit old = any_good b t (running_host t) line.Work q old
+line_good b piece t line.Ask q fit old = any_good b t (running_host t) line.Ask q old
+line_good b piece t line.Reset q fit old = any_good b t (running_host t) line.Reset q old
+line_good b piece t (line.Fail host call) q fit old = old
 line_good b piece t Offer q fit old = offer_good b t (running_host t) q fit old
 line_good b piece t (Deliver k) q fit old = delivery_good piece t (message_at t.sent k) q old
 line_good b piece t GiveUp q fit old = give_up_good t (host_where is_offering t) old
 line_good b piece t Again q fit old = again_good t (host_where is_prepared t) old
 line_good b piece t (Show k) q fit old = old
 
-exchange_good : (b : Base) (piece : ℕ) (t : TwoHosts) (l : Option Line) (q : Reply) → IsFitBase b → GoodTotals t.offered → GoodTotals (after_exchange b piece t l q).offered
+exchange_good : (b : Base) (piece : ℕ) (t : TwoHosts) (l : Option Event) (q : Reply) → IsFitBase b → GoodTotals t.offered → GoodTotals (after_exchange b piece t l q).offered
 exchange_good b piece t None q fit old = old
 exchange_good b piece t (Some l) q fit old = line_good b piece t l q fit old
 

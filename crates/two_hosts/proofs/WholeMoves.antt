@@ -6,7 +6,7 @@ use Rattle.crb_regs.specs.Registers.{is_lost}
 use Rattle.crb_history.specs.Base.{Base, IsFitBase}
 use Rattle.crb_history.specs.Continued.{base_after}
 use Rattle.crb_history.specs.Device.{phase_of}
-use Rattle.crb_history.specs.Replies.{is_under_way, reaches}
+use Rattle.crb_history.specs.Replies.{is_under_way, reaches, Transcript}
 use Rattle.move_codec.specs.declared.names.HostName.{HostName}
 use Rattle.move_codec.specs.declared.names.HostName.TheVariants.{A, B}
 use Rattle.move_codec.specs.declared.names.Part.TheVariants.{Record}
@@ -17,10 +17,10 @@ use Rattle.move_core.specs.declared.side.Side.TheVariants.{Running}
 use Rattle.move_core.specs.declared.answers.Delivered.TheVariants.{Sent, Runs}
 use Rattle.move_core.specs.Sides.{other, side_of, is_active, is_running, first_bad}
 use Rattle.move_core.specs.Table.{message_from}
-use Rattle.two_hosts.specs.declared.reply.Reply.TheVariants as reply
+use Rattle.vt_script.specs.declared.reply.Reply.TheVariants as reply
 use Rattle.two_hosts.specs.Parts.{totals_of}
 use Rattle.two_hosts.specs.Deliveries.{SideState, delivered, on_offer, on_prepared, on_commit, takes_offer}
-use Rattle.two_hosts.specs.Hosts.{TwoHosts, Transcript, hosts_after, host_of, stage_at, running_host, next_number, context_for, fails_at, offered_by, after_offer, offer_message}
+use Rattle.two_hosts.specs.Hosts.{TwoHosts, hosts_after, host_of, stage_at, running_host, next_number, context_for, fails_at, offered_by, after_offer, offer_message}
 use Rattle.two_hosts.specs.Replies.{InTurn, offer_reply}
 use Rattle.two_hosts.specs.Invariant.{HostsInvariant, IsPassive, side_at}
 use Rattle.two_hosts.specs.WholeMove.{pieces, offer_now, deliveries, CanOffer, CanMove, MovesOver}
@@ -180,16 +180,16 @@ module _ (b : Base) (piece : ℕ) (w : TwoHosts) (n : HostName) (fit : IsFitBase
   pub after_all : often piece (2 * count + 3) one ≡ turn_last piece four
   after_all = let more : 2 * count + 3 ≡ suc (2 * count + 2) = omega arith in ap (λ k. often piece k one) more ∙ ap (turn_last piece) at_four
 
-  pub each_sent : (k : ℕ) → k < 2 * count + 2 → last_reply piece (often piece k one) ≡ reply.Sent (size + 1 + 1 + k)
-  each_sent zero low = let same : size + 1 + 1 ≡ size + 1 + 1 + 0 = omega arith in begun.replies ∙ ap reply.Sent same
+  pub each_sent : (k : ℕ) → k < 2 * count + 2 → last_reply piece (often piece k one) ≡ reply.SentMessage (size + 1 + 1 + k)
+  each_sent zero low = let same : size + 1 + 1 ≡ size + 1 + 1 + 0 = omega arith in begun.replies ∙ ap reply.SentMessage same
   each_sent (suc j) low = go (cases_lt j (2 * count))
     where
-      go : (j < 2 * count) ⊎ (2 * count ≤ j) → last_reply piece (often piece (suc j) one) ≡ reply.Sent (size + 1 + 1 + suc j)
-      go (inl below) = let same : size + 1 + 1 + 1 + j ≡ size + 1 + 1 + suc j = omega arith in ap (last_reply piece) (often_more piece j one) ∙ ended.sent j below ∙ ap reply.Sent same
+      go : (j < 2 * count) ⊎ (2 * count ≤ j) → last_reply piece (often piece (suc j) one) ≡ reply.SentMessage (size + 1 + 1 + suc j)
+      go (inl below) = let same : size + 1 + 1 + 1 + j ≡ size + 1 + 1 + suc j = omega arith in ap (last_reply piece) (often_more piece j one) ∙ ended.sent j below ∙ ap reply.SentMessage same
       go (inr full) =
           let is : j ≡ 2 * count = omega (arith, low) in
           let same : size + 1 + 1 + 2 * count + 1 ≡ size + 1 + 1 + suc j = omega arith in
-          ap (last_reply piece) (often_more piece j one ∙ ap (λ k. often piece k two) is) ∙ released.replies ∙ ap reply.Sent same
+          ap (last_reply piece) (often_more piece j one ∙ ap (λ k. often piece k two) is) ∙ released.replies ∙ ap reply.SentMessage same
 
 -- ---- transcripts
 
@@ -213,7 +213,7 @@ one_more b piece t n can = ap (λ (w : TwoHosts). length w.sent) (offered_is b p
 pub moves_over : (b : Base) (piece : ℕ) (t : Transcript) (n : HostName) → IsFitBase b → InTurn b piece t → CanMove b piece (hosts_after b piece t) n
     → MovesOver b piece (offer_now b piece t ∷ t) n (pieces piece (base_after b (hosts_after b piece t).history))
 moves_over b piece t n fit in_turn can = record {
-  sends = λ k low. ap (last_reply piece) (reached k) ∙ each_sent b piece (hosts_after b piece t) n fit kept can k low ∙ ap (λ size. reply.Sent (size + 1 + k)) (sym (one_more b piece t n can.offers));
+  sends = λ k low. ap (last_reply piece) (reached k) ∙ each_sent b piece (hosts_after b piece t) n fit kept can k low ∙ ap (λ size. reply.SentMessage (size + 1 + k)) (sym (one_more b piece t n can.offers));
   runs = ap (last_reply piece) (reached (2 * count + 2)) ∙ last_is_running b piece (hosts_after b piece t) n fit kept can;
   target = ap (λ (w : TwoHosts). is_running (stage_at w (other n))) (reached (2 * count + 3) ∙ after_all b piece (hosts_after b piece t) n fit kept can) ∙ target_runs b piece (hosts_after b piece t) n fit kept can;
   in_turn = often_in_turn b piece (offer_now b piece t ∷ t) (2 * count + 3) (in_turn, refl);

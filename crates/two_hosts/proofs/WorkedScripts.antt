@@ -1,13 +1,16 @@
 -- Scripts with their replies, computed from the definitions.
 use Rattle.std.proofs.Common.{◌≡◌, ℕ, Bool, true, false, ◌&&◌, ◌+◌, List, [], ◌∷◌, length, Option, Some, None, refl, lit≤}
 use Rattle.std.specs.Prelude.{replicate, ⊤}
-use Rattle.vt_script.specs.declared.event.Event.TheVariants.{Access, Work, Ask as AskLine, Reset as ResetLine, Fail}
-use Rattle.vt_script.specs.declared.reply.Reply.TheVariants as guest
+use Rattle.vt_script.specs.declared.event.Event.{Event}
+use Rattle.vt_script.specs.declared.event.Event.TheVariants.{Access, Work, Ask as AskLine, Reset as ResetLine, Offer, Deliver, GiveUp, Again, Show, Fail}
+use Rattle.vt_script.specs.declared.reply.Reply.{Reply}
+use Rattle.vt_script.specs.declared.reply.Reply.TheVariants as reply
 use Rattle.device_record.specs.Records.{record_text}
 use Rattle.state_blobs.specs.Texts.{text_of}
 use Rattle.crb_machine.specs.Values.{fresh_device}
 use Rattle.crb_history.specs.Base.{Base, fresh}
 use Rattle.crb_history.specs.Event.{History}
+use Rattle.crb_history.specs.Replies.{Exchange, Transcript}
 use Rattle.crb_history.specs.Legal.{Legal}
 use Rattle.crb_history.specs.Continued.{base_after}
 use Rattle.crb_history.specs.Device.Stage.{Waiting, HasSent}
@@ -15,11 +18,7 @@ use Rattle.move_codec.specs.declared.names.HostName.{HostName}
 use Rattle.move_codec.specs.declared.names.HostName.TheVariants.{A, B}
 use Rattle.move_codec.specs.declared.names.Reason.TheVariants as reason
 use Rattle.move_codec.specs.declared.message.Message.{Message}
-use Rattle.two_hosts.specs.declared.line.Line.{Line}
-use Rattle.two_hosts.specs.declared.line.Line.TheVariants.{Guest, Offer, Deliver, GiveUp, Again, Show}
-use Rattle.two_hosts.specs.declared.reply.Reply.{Reply}
-use Rattle.two_hosts.specs.declared.reply.Reply.TheVariants as reply
-use Rattle.two_hosts.specs.Hosts.{Exchange, Transcript, TwoHosts, first_hosts, hosts_after, running_host, offered_by, after_offer, after_exchange, next_number, message_at, bag_size}
+use Rattle.two_hosts.specs.Hosts.{TwoHosts, first_hosts, hosts_after, running_host, offered_by, after_offer, after_exchange, next_number, message_at, bag_size}
 use Rattle.two_hosts.specs.Replies.{AnswersIn}
 use Rattle.two_hosts.specs.WholeMove.{piece_count}
 
@@ -31,7 +30,7 @@ sent_waits : HasSent ≡ Waiting → ⊥
 sent_waits is = cc
 
 -- a line and its reply
-abbrev said : Line → Reply → Exchange
+abbrev said : Event → Reply → Exchange
 said line r = record { line = Some line; reply = r }
 
 -- ---- With another function for the values at the end of a history, since those of a whole buffer take too many steps to compute
@@ -41,7 +40,7 @@ abbrev offered_with : Base → TwoHosts → Option HostName → TwoHosts
 offered_with values t None = t
 offered_with values t (Some n) = offered_by values t n
 
-abbrev exchanged_with : (History → Base) → Base → ℕ → TwoHosts → Option Line → Reply → TwoHosts
+abbrev exchanged_with : (History → Base) → Base → ℕ → TwoHosts → Option Event → Reply → TwoHosts
 exchanged_with save b piece t (Some Offer) (reply.Offered epoch message) = offered_with (save t.history) t (running_host t)
 exchanged_with save b piece t line r = after_exchange b piece t line r
 
@@ -57,7 +56,7 @@ record IsRunBy (save : History → Base) (b : Base) (piece : ℕ) (t : Transcrip
   legal : Legal b (hosts_with save b piece t).history
   in_turn : InTurnBy save b piece t
 
-same_exchange : (b : Base) (piece : ℕ) (t : TwoHosts) (line : Option Line) (r : Reply) → exchanged_with (base_after b) b piece t line r ≡ after_exchange b piece t line r
+same_exchange : (b : Base) (piece : ℕ) (t : TwoHosts) (line : Option Event) (r : Reply) → exchanged_with (base_after b) b piece t line r ≡ after_exchange b piece t line r
 same_exchange b piece t (Some Offer) (reply.Offered epoch message) = go (running_host t)
   where
     go : (n : Option HostName) → offered_with (base_after b t.history) t n ≡ after_offer b t n (reply.Offered epoch message)
@@ -79,21 +78,21 @@ blank = record (fresh (replicate 32 0)) { device = record fresh_device { content
 --   offer > not yet, reset > not yet, work > sent 1, work > exec 1, work > done 1, offer > offered 1 sent 1
 --   r 0 4 > stopped, work > stopped
 offers_wait_for_commands : IsRunBy (λ history. blank) blank 4096 (
-    said (Guest Work) reply.Stopped ∷
-    said (Guest (Access (record { offset = 0; size = 4; write = None }))) reply.Stopped ∷
+    said Work reply.Stopped ∷
+    said (Access (record { offset = 0; size = 4; write = None })) reply.Stopped ∷
     said Offer (reply.Offered 1 1) ∷
-    said (Guest Work) (reply.Guest (guest.Done 1)) ∷
-    said (Guest Work) (reply.Guest (guest.Exec 1)) ∷
-    said (Guest Work) (reply.Guest (guest.Sent 1)) ∷
-    said (Guest ResetLine) (reply.Guest guest.NotYet) ∷
-    said Offer (reply.Guest guest.NotYet) ∷
-    said (Guest Work) (reply.Guest (guest.Claim 1)) ∷
-    said (Guest (Access (record { offset = 76; size = 4; write = Some 1 }))) (reply.Guest guest.Accepted) ∷
-    said (Guest (Access (record { offset = 136; size = 4; write = Some 17409 }))) (reply.Guest guest.Accepted) ∷
-    said (Guest (Access (record { offset = 132; size = 4; write = Some 3072 }))) (reply.Guest guest.Accepted) ∷
-    said (Guest (Access (record { offset = 128; size = 4; write = Some 384 }))) (reply.Guest guest.Accepted) ∷
-    said (Guest (Access (record { offset = 64; size = 4; write = Some 1 }))) (reply.Guest guest.Accepted) ∷
-    said (Guest (Access (record { offset = 8; size = 4; write = Some 1 }))) (reply.Guest guest.Accepted) ∷
+    said Work (reply.Done 1) ∷
+    said Work (reply.Exec 1) ∷
+    said Work (reply.Sent 1) ∷
+    said ResetLine reply.NotYet ∷
+    said Offer reply.NotYet ∷
+    said Work (reply.Claim 1) ∷
+    said (Access (record { offset = 76; size = 4; write = Some 1 })) reply.Accepted ∷
+    said (Access (record { offset = 136; size = 4; write = Some 17409 })) reply.Accepted ∷
+    said (Access (record { offset = 132; size = 4; write = Some 3072 })) reply.Accepted ∷
+    said (Access (record { offset = 128; size = 4; write = Some 384 })) reply.Accepted ∷
+    said (Access (record { offset = 64; size = 4; write = Some 1 })) reply.Accepted ∷
+    said (Access (record { offset = 8; size = 4; write = Some 1 })) reply.Accepted ∷
     [])
 unfolding record_text text_of bag_size
 offers_wait_for_commands = record { legal = ((((((((((tt, tt), tt), tt), tt), tt), tt), record { executing = refl; reached = refl }), record { executing = refl; reached = refl }), record { executing = refl; reached = refl }), record { executing = refl; reached = refl }); in_turn = (((((((((((((((tt, refl), refl), refl), refl), refl), refl), refl), refl), refl), refl), refl), rw never refl), refl), refl), refl) }
@@ -103,18 +102,18 @@ offers_wait_for_commands = record { legal = ((((((((((tt, tt), tt), tt), tt), tt
 --   deliver 5 > sent 6, deliver 6 > sent 7, deliver 7 > sent 8, deliver 8 > sent 9, deliver 9 > sent 10
 --   deliver 10 > sent 11, deliver 11 > running, r 0 4 > 00000081
 whole_move : IsRunBy (λ history. blank) blank 4096 (
-    said (Guest (Access (record { offset = 0; size = 4; write = None }))) (reply.Guest (guest.Value 129 4)) ∷
+    said (Access (record { offset = 0; size = 4; write = None })) (reply.Value 129 4) ∷
     said (Deliver 11) reply.Running ∷
-    said (Deliver 10) (reply.Sent 11) ∷
-    said (Deliver 9) (reply.Sent 10) ∷
-    said (Deliver 8) (reply.Sent 9) ∷
-    said (Deliver 7) (reply.Sent 8) ∷
-    said (Deliver 6) (reply.Sent 7) ∷
-    said (Deliver 5) (reply.Sent 6) ∷
-    said (Deliver 4) (reply.Sent 5) ∷
-    said (Deliver 3) (reply.Sent 4) ∷
-    said (Deliver 2) (reply.Sent 3) ∷
-    said (Deliver 1) (reply.Sent 2) ∷
+    said (Deliver 10) (reply.SentMessage 11) ∷
+    said (Deliver 9) (reply.SentMessage 10) ∷
+    said (Deliver 8) (reply.SentMessage 9) ∷
+    said (Deliver 7) (reply.SentMessage 8) ∷
+    said (Deliver 6) (reply.SentMessage 7) ∷
+    said (Deliver 5) (reply.SentMessage 6) ∷
+    said (Deliver 4) (reply.SentMessage 5) ∷
+    said (Deliver 3) (reply.SentMessage 4) ∷
+    said (Deliver 2) (reply.SentMessage 3) ∷
+    said (Deliver 1) (reply.SentMessage 2) ∷
     said Offer (reply.Offered 1 1) ∷
     [])
 unfolding record_text text_of bag_size
@@ -127,18 +126,18 @@ whole_move = record { legal = (tt, (lit≤ tt, refl)); in_turn = (((((((((((((tt
 given_up_before_the_commit : IsRunBy (λ history. blank) blank 4096 (
     said GiveUp reply.NotOffering ∷
     said (Deliver 11) reply.Took ∷
-    said (Guest (Access (record { offset = 0; size = 4; write = None }))) (reply.Guest (guest.Value 129 4)) ∷
+    said (Access (record { offset = 0; size = 4; write = None })) (reply.Value 129 4) ∷
     said (Deliver 10) reply.Ignored ∷
     said GiveUp (reply.ResumedSent 11) ∷
-    said (Deliver 9) (reply.Sent 10) ∷
-    said (Deliver 8) (reply.Sent 9) ∷
-    said (Deliver 7) (reply.Sent 8) ∷
-    said (Deliver 6) (reply.Sent 7) ∷
-    said (Deliver 5) (reply.Sent 6) ∷
-    said (Deliver 4) (reply.Sent 5) ∷
-    said (Deliver 3) (reply.Sent 4) ∷
-    said (Deliver 2) (reply.Sent 3) ∷
-    said (Deliver 1) (reply.Sent 2) ∷
+    said (Deliver 9) (reply.SentMessage 10) ∷
+    said (Deliver 8) (reply.SentMessage 9) ∷
+    said (Deliver 7) (reply.SentMessage 8) ∷
+    said (Deliver 6) (reply.SentMessage 7) ∷
+    said (Deliver 5) (reply.SentMessage 6) ∷
+    said (Deliver 4) (reply.SentMessage 5) ∷
+    said (Deliver 3) (reply.SentMessage 4) ∷
+    said (Deliver 2) (reply.SentMessage 3) ∷
+    said (Deliver 1) (reply.SentMessage 2) ∷
     said Offer (reply.Offered 1 1) ∷
     [])
 unfolding record_text text_of bag_size
@@ -152,21 +151,21 @@ given_up_before_the_commit = record { legal = (tt, (lit≤ tt, refl)); in_turn =
 commit_sent_again : IsRunBy (λ history. blank) blank 4096 (
     said Again reply.NotPrepared ∷
     said (Deliver 11) reply.Ignored ∷
-    said (Guest (Access (record { offset = 0; size = 4; write = None }))) (reply.Guest (guest.Value 129 4)) ∷
+    said (Access (record { offset = 0; size = 4; write = None })) (reply.Value 129 4) ∷
     said (Deliver 13) reply.Running ∷
-    said (Deliver 12) (reply.Sent 13) ∷
-    said Again (reply.Sent 12) ∷
-    said (Guest (Access (record { offset = 0; size = 4; write = None }))) reply.Stopped ∷
-    said (Deliver 10) (reply.Sent 11) ∷
-    said (Deliver 9) (reply.Sent 10) ∷
-    said (Deliver 8) (reply.Sent 9) ∷
-    said (Deliver 7) (reply.Sent 8) ∷
-    said (Deliver 6) (reply.Sent 7) ∷
-    said (Deliver 5) (reply.Sent 6) ∷
-    said (Deliver 4) (reply.Sent 5) ∷
-    said (Deliver 3) (reply.Sent 4) ∷
-    said (Deliver 2) (reply.Sent 3) ∷
-    said (Deliver 1) (reply.Sent 2) ∷
+    said (Deliver 12) (reply.SentMessage 13) ∷
+    said Again (reply.SentMessage 12) ∷
+    said (Access (record { offset = 0; size = 4; write = None })) reply.Stopped ∷
+    said (Deliver 10) (reply.SentMessage 11) ∷
+    said (Deliver 9) (reply.SentMessage 10) ∷
+    said (Deliver 8) (reply.SentMessage 9) ∷
+    said (Deliver 7) (reply.SentMessage 8) ∷
+    said (Deliver 6) (reply.SentMessage 7) ∷
+    said (Deliver 5) (reply.SentMessage 6) ∷
+    said (Deliver 4) (reply.SentMessage 5) ∷
+    said (Deliver 3) (reply.SentMessage 4) ∷
+    said (Deliver 2) (reply.SentMessage 3) ∷
+    said (Deliver 1) (reply.SentMessage 2) ∷
     said Offer (reply.Offered 1 1) ∷
     [])
 unfolding record_text text_of bag_size
@@ -184,29 +183,29 @@ there_and_back : IsRunBy (λ history. blank) blank 4096 (
     said (Deliver 11) reply.Ignored ∷
     said (Deliver 1) reply.Ignored ∷
     said (Deliver 22) reply.Running ∷
-    said (Deliver 21) (reply.Sent 22) ∷
-    said (Deliver 20) (reply.Sent 21) ∷
-    said (Deliver 19) (reply.Sent 20) ∷
-    said (Deliver 18) (reply.Sent 19) ∷
-    said (Deliver 17) (reply.Sent 18) ∷
-    said (Deliver 16) (reply.Sent 17) ∷
-    said (Deliver 15) (reply.Sent 16) ∷
-    said (Deliver 14) (reply.Sent 15) ∷
-    said (Deliver 13) (reply.Sent 14) ∷
-    said (Deliver 12) (reply.Sent 13) ∷
+    said (Deliver 21) (reply.SentMessage 22) ∷
+    said (Deliver 20) (reply.SentMessage 21) ∷
+    said (Deliver 19) (reply.SentMessage 20) ∷
+    said (Deliver 18) (reply.SentMessage 19) ∷
+    said (Deliver 17) (reply.SentMessage 18) ∷
+    said (Deliver 16) (reply.SentMessage 17) ∷
+    said (Deliver 15) (reply.SentMessage 16) ∷
+    said (Deliver 14) (reply.SentMessage 15) ∷
+    said (Deliver 13) (reply.SentMessage 14) ∷
+    said (Deliver 12) (reply.SentMessage 13) ∷
     said Offer (reply.Offered 2 12) ∷
-    said (Guest (Access (record { offset = 0; size = 4; write = None }))) (reply.Guest (guest.Value 129 4)) ∷
+    said (Access (record { offset = 0; size = 4; write = None })) (reply.Value 129 4) ∷
     said (Deliver 11) reply.Running ∷
-    said (Deliver 10) (reply.Sent 11) ∷
-    said (Deliver 9) (reply.Sent 10) ∷
-    said (Deliver 8) (reply.Sent 9) ∷
-    said (Deliver 7) (reply.Sent 8) ∷
-    said (Deliver 6) (reply.Sent 7) ∷
-    said (Deliver 5) (reply.Sent 6) ∷
-    said (Deliver 4) (reply.Sent 5) ∷
-    said (Deliver 3) (reply.Sent 4) ∷
-    said (Deliver 2) (reply.Sent 3) ∷
-    said (Deliver 1) (reply.Sent 2) ∷
+    said (Deliver 10) (reply.SentMessage 11) ∷
+    said (Deliver 9) (reply.SentMessage 10) ∷
+    said (Deliver 8) (reply.SentMessage 9) ∷
+    said (Deliver 7) (reply.SentMessage 8) ∷
+    said (Deliver 6) (reply.SentMessage 7) ∷
+    said (Deliver 5) (reply.SentMessage 6) ∷
+    said (Deliver 4) (reply.SentMessage 5) ∷
+    said (Deliver 3) (reply.SentMessage 4) ∷
+    said (Deliver 2) (reply.SentMessage 3) ∷
+    said (Deliver 1) (reply.SentMessage 2) ∷
     said Offer (reply.Offered 1 1) ∷
     [])
 unfolding record_text text_of bag_size
@@ -226,22 +225,22 @@ offer_shown = record { legal = tt; in_turn = ((tt, refl), refl) }
 --   work > claim 1, work > sent 1, work > lost 1, r 44 4 > 00000001, r 4c 4 > 00000000, w 40 4 1 > ok, r 44 4 > 00000001
 --   offer > failed device, reset > failed device
 command_lost : IsRunBy (λ history. blank) blank 4096 (
-    said (Guest ResetLine) (reply.Guest guest.FailedDevice) ∷
-    said Offer (reply.Guest guest.FailedDevice) ∷
-    said (Guest (Access (record { offset = 68; size = 4; write = None }))) (reply.Guest (guest.Value 1 4)) ∷
-    said (Guest (Access (record { offset = 64; size = 4; write = Some 1 }))) (reply.Guest guest.Accepted) ∷
-    said (Guest (Access (record { offset = 76; size = 4; write = None }))) (reply.Guest (guest.Value 0 4)) ∷
-    said (Guest (Access (record { offset = 68; size = 4; write = None }))) (reply.Guest (guest.Value 1 4)) ∷
-    said (Guest Work) (reply.Guest (guest.Lost 1)) ∷
-    said (Guest Work) (reply.Guest (guest.Sent 1)) ∷
-    said (Guest Work) (reply.Guest (guest.Claim 1)) ∷
-    said (Guest (Access (record { offset = 76; size = 4; write = Some 1 }))) (reply.Guest guest.Accepted) ∷
-    said (Guest (Access (record { offset = 136; size = 4; write = Some 17409 }))) (reply.Guest guest.Accepted) ∷
-    said (Guest (Access (record { offset = 132; size = 4; write = Some 3072 }))) (reply.Guest guest.Accepted) ∷
-    said (Guest (Access (record { offset = 128; size = 4; write = Some 384 }))) (reply.Guest guest.Accepted) ∷
-    said (Guest (Access (record { offset = 64; size = 4; write = Some 1 }))) (reply.Guest guest.Accepted) ∷
-    said (Guest (Access (record { offset = 8; size = 4; write = Some 1 }))) (reply.Guest guest.Accepted) ∷
-    said (Guest (Fail A 2)) (reply.Guest guest.Accepted) ∷
+    said ResetLine reply.FailedDevice ∷
+    said Offer reply.FailedDevice ∷
+    said (Access (record { offset = 68; size = 4; write = None })) (reply.Value 1 4) ∷
+    said (Access (record { offset = 64; size = 4; write = Some 1 })) reply.Accepted ∷
+    said (Access (record { offset = 76; size = 4; write = None })) (reply.Value 0 4) ∷
+    said (Access (record { offset = 68; size = 4; write = None })) (reply.Value 1 4) ∷
+    said Work (reply.Lost 1) ∷
+    said Work (reply.Sent 1) ∷
+    said Work (reply.Claim 1) ∷
+    said (Access (record { offset = 76; size = 4; write = Some 1 })) reply.Accepted ∷
+    said (Access (record { offset = 136; size = 4; write = Some 17409 })) reply.Accepted ∷
+    said (Access (record { offset = 132; size = 4; write = Some 3072 })) reply.Accepted ∷
+    said (Access (record { offset = 128; size = 4; write = Some 384 })) reply.Accepted ∷
+    said (Access (record { offset = 64; size = 4; write = Some 1 })) reply.Accepted ∷
+    said (Access (record { offset = 8; size = 4; write = Some 1 })) reply.Accepted ∷
+    said (Fail A 2) reply.Accepted ∷
     [])
 unfolding record_text text_of bag_size
 command_lost = record { legal = (((((((((((((tt, tt), tt), tt), tt), tt), tt), record { executing = refl; reached = refl }), record { executing = refl; reached = refl }), record { executing = refl; claimed = λ is. sent_waits is }), (lit≤ tt, refl)), (lit≤ tt, refl)), tt), (lit≤ tt, refl)); in_turn = ((((((((((((((((tt, refl), refl), refl), refl), refl), refl), refl), refl), refl), refl), (refl, refl)), (refl, refl)), refl), (refl, refl)), refl), refl) }
@@ -255,10 +254,10 @@ calls_fail : IsRunBy (λ history. blank) blank 4096 (
     said (Deliver 2) reply.Resumed ∷
     said (Deliver 1) (reply.RefusedSent reason.Link 2) ∷
     said Offer (reply.Offered 1 1) ∷
-    said (Guest (Fail B 1)) (reply.Guest guest.Accepted) ∷
-    said (Guest (Access (record { offset = 0; size = 4; write = None }))) (reply.Guest (guest.Value 129 4)) ∷
-    said Offer (reply.Guest guest.Link) ∷
-    said (Guest (Fail A 1)) (reply.Guest guest.Accepted) ∷
+    said (Fail B 1) reply.Accepted ∷
+    said (Access (record { offset = 0; size = 4; write = None })) (reply.Value 129 4) ∷
+    said Offer reply.Link ∷
+    said (Fail A 1) reply.Accepted ∷
     [])
 unfolding record_text text_of bag_size
 calls_fail = record { legal = (tt, (lit≤ tt, refl)); in_turn = (((((((((tt, refl), refl), (refl, refl)), refl), refl), refl), refl), refl), refl) }
@@ -267,14 +266,14 @@ calls_fail = record { legal = (tt, (lit≤ tt, refl)); in_turn = (((((((((tt, re
 --   fail a 10 > ok, offer > offered 1 sent 1, deliver 1 > sent 2, deliver 2 > sent 3, deliver 3 > sent 4
 --   deliver 4 > link, deliver 4 > sent 5, deliver 5 > sent 6
 source_fails : IsRunBy (λ history. blank) blank 4096 (
-    said (Deliver 5) (reply.Sent 6) ∷
-    said (Deliver 4) (reply.Sent 5) ∷
-    said (Deliver 4) (reply.Guest guest.Link) ∷
-    said (Deliver 3) (reply.Sent 4) ∷
-    said (Deliver 2) (reply.Sent 3) ∷
-    said (Deliver 1) (reply.Sent 2) ∷
+    said (Deliver 5) (reply.SentMessage 6) ∷
+    said (Deliver 4) (reply.SentMessage 5) ∷
+    said (Deliver 4) reply.Link ∷
+    said (Deliver 3) (reply.SentMessage 4) ∷
+    said (Deliver 2) (reply.SentMessage 3) ∷
+    said (Deliver 1) (reply.SentMessage 2) ∷
     said Offer (reply.Offered 1 1) ∷
-    said (Guest (Fail A 10)) (reply.Guest guest.Accepted) ∷
+    said (Fail A 10) reply.Accepted ∷
     [])
 unfolding record_text text_of bag_size
 source_fails = record { legal = tt; in_turn = ((((((((tt, refl), refl), refl), refl), refl), refl), refl), refl) }
@@ -284,21 +283,21 @@ source_fails = record { legal = tt; in_turn = ((((((((tt, refl), refl), refl), r
 --   deliver 4 > sent 5, deliver 5 > sent 6, deliver 6 > sent 7, deliver 7 > sent 8, deliver 8 > sent 9
 --   deliver 9 > refused link sent 10, r 0 4 > stopped, deliver 10 > resumed, deliver 9 > ignored, r 0 4 > 00000081
 last_piece_fails : IsRunBy (λ history. blank) blank 4096 (
-    said (Guest (Access (record { offset = 0; size = 4; write = None }))) (reply.Guest (guest.Value 129 4)) ∷
+    said (Access (record { offset = 0; size = 4; write = None })) (reply.Value 129 4) ∷
     said (Deliver 9) reply.Ignored ∷
     said (Deliver 10) reply.Resumed ∷
-    said (Guest (Access (record { offset = 0; size = 4; write = None }))) reply.Stopped ∷
+    said (Access (record { offset = 0; size = 4; write = None })) reply.Stopped ∷
     said (Deliver 9) (reply.RefusedSent reason.Link 10) ∷
-    said (Deliver 8) (reply.Sent 9) ∷
-    said (Deliver 7) (reply.Sent 8) ∷
-    said (Deliver 6) (reply.Sent 7) ∷
-    said (Deliver 5) (reply.Sent 6) ∷
-    said (Deliver 4) (reply.Sent 5) ∷
-    said (Deliver 3) (reply.Sent 4) ∷
-    said (Deliver 2) (reply.Sent 3) ∷
-    said (Deliver 1) (reply.Sent 2) ∷
+    said (Deliver 8) (reply.SentMessage 9) ∷
+    said (Deliver 7) (reply.SentMessage 8) ∷
+    said (Deliver 6) (reply.SentMessage 7) ∷
+    said (Deliver 5) (reply.SentMessage 6) ∷
+    said (Deliver 4) (reply.SentMessage 5) ∷
+    said (Deliver 3) (reply.SentMessage 4) ∷
+    said (Deliver 2) (reply.SentMessage 3) ∷
+    said (Deliver 1) (reply.SentMessage 2) ∷
     said Offer (reply.Offered 1 1) ∷
-    said (Guest (Fail B 13)) (reply.Guest guest.Accepted) ∷
+    said (Fail B 13) reply.Accepted ∷
     [])
 unfolding record_text text_of bag_size
 last_piece_fails = record { legal = (tt, (lit≤ tt, refl)); in_turn = (((((((((((((((tt, refl), refl), refl), refl), refl), refl), refl), refl), refl), refl), refl), refl), refl), refl), (refl, refl)) }
@@ -312,22 +311,22 @@ fault_waits : IsRunBy (λ history. blank) blank 4096 (
     said (Deliver 13) reply.Resumed ∷
     said (Deliver 12) (reply.RefusedSent reason.Link 13) ∷
     said Offer (reply.Offered 2 12) ∷
-    said (Guest AskLine) (reply.Guest guest.Asked) ∷
-    said (Guest (Fail A 1)) (reply.Guest guest.Accepted) ∷
-    said (Guest AskLine) (reply.Guest guest.Link) ∷
+    said AskLine reply.Asked ∷
+    said (Fail A 1) reply.Accepted ∷
+    said AskLine reply.Link ∷
     said (Deliver 11) reply.Running ∷
-    said (Deliver 10) (reply.Sent 11) ∷
-    said (Deliver 9) (reply.Sent 10) ∷
-    said (Deliver 8) (reply.Sent 9) ∷
-    said (Deliver 7) (reply.Sent 8) ∷
-    said (Deliver 6) (reply.Sent 7) ∷
-    said (Deliver 5) (reply.Sent 6) ∷
-    said (Deliver 4) (reply.Sent 5) ∷
-    said (Deliver 3) (reply.Sent 4) ∷
-    said (Deliver 2) (reply.Sent 3) ∷
-    said (Deliver 1) (reply.Sent 2) ∷
+    said (Deliver 10) (reply.SentMessage 11) ∷
+    said (Deliver 9) (reply.SentMessage 10) ∷
+    said (Deliver 8) (reply.SentMessage 9) ∷
+    said (Deliver 7) (reply.SentMessage 8) ∷
+    said (Deliver 6) (reply.SentMessage 7) ∷
+    said (Deliver 5) (reply.SentMessage 6) ∷
+    said (Deliver 4) (reply.SentMessage 5) ∷
+    said (Deliver 3) (reply.SentMessage 4) ∷
+    said (Deliver 2) (reply.SentMessage 3) ∷
+    said (Deliver 1) (reply.SentMessage 2) ∷
     said Offer (reply.Offered 1 1) ∷
-    said (Guest (Fail B 14)) (reply.Guest guest.Accepted) ∷
+    said (Fail B 14) reply.Accepted ∷
     [])
 unfolding record_text text_of bag_size
 fault_waits = record { legal = ((tt, tt), tt); in_turn = (((((((((((((((((((tt, refl), refl), refl), refl), refl), refl), refl), refl), refl), refl), refl), refl), refl), refl), refl), refl), refl), refl), refl) }
@@ -335,11 +334,11 @@ fault_waits = record { legal = ((tt, tt), tt); in_turn = (((((((((((((((((((tt, 
 -- Either call of an ask fails.
 --   fail a 1 > ok, ask > link, fail a 2 > ok, ask > link, ask > asked
 asks_fail : IsRunBy (λ history. blank) blank 4096 (
-    said (Guest AskLine) (reply.Guest guest.Asked) ∷
-    said (Guest AskLine) (reply.Guest guest.Link) ∷
-    said (Guest (Fail A 2)) (reply.Guest guest.Accepted) ∷
-    said (Guest AskLine) (reply.Guest guest.Link) ∷
-    said (Guest (Fail A 1)) (reply.Guest guest.Accepted) ∷
+    said AskLine reply.Asked ∷
+    said AskLine reply.Link ∷
+    said (Fail A 2) reply.Accepted ∷
+    said AskLine reply.Link ∷
+    said (Fail A 1) reply.Accepted ∷
     [])
 unfolding record_text text_of bag_size
 asks_fail = record { legal = (((tt, tt), tt), tt); in_turn = (((((tt, refl), refl), refl), refl), refl) }

@@ -2,15 +2,14 @@
 -- fault, and the messages that were sent. (Own definitions.)
 use Rattle.std.specs.Prelude.{ℕ, zero, suc, ◌+◌, ◌==◌, Bool, true, false, nat_lt, if◌then◌else◌, List, [], ◌∷◌, ◌++◌, length, slice_get, Option, Some, None}
 use Rattle.vt_script.specs.declared.event.Event.{Event}
-use Rattle.vt_script.specs.declared.event.Event.TheVariants.{Access, Work, Ask, Reset, Fail}
-use Rattle.vt_script.specs.declared.reply.Reply.{Reply as GuestReply}
+use Rattle.vt_script.specs.declared.event.Event.TheVariants.{Access, Work, Ask, Reset, Offer, Deliver, GiveUp, Again, Show, Fail}
+use Rattle.vt_script.specs.declared.reply.Reply.{Reply}
 use Rattle.crb_history.specs.Base.{Base}
 use Rattle.crb_history.specs.Event.{History}
 use Rattle.crb_history.specs.Continued.{base_after}
-use Rattle.crb_history.specs.Replies.{reaches, with_event, order_after, count_after, response_length}
+use Rattle.crb_history.specs.Replies.{Transcript, is_fault, reaches, with_event, order_after, count_after, response_length}
 use Rattle.move_codec.specs.declared.names.HostName.{HostName}
 use Rattle.move_codec.specs.declared.names.HostName.TheVariants.{A, B}
-use Rattle.move_codec.specs.declared.names.Reason.TheVariants as reason
 use Rattle.move_codec.specs.declared.message.Message.{Message}
 use Rattle.move_codec.specs.declared.message.Body.TheVariants as body
 use Rattle.move_core.specs.declared.stage.MoveStage.{MoveStage}
@@ -19,10 +18,7 @@ use Rattle.move_core.specs.declared.answers.Delivered.{Delivered}
 use Rattle.move_core.specs.declared.answers.Delivered.TheVariants as delivers
 use Rattle.move_core.specs.Sides.{is_running}
 use Rattle.move_core.specs.Table.{message_from}
-use Rattle.two_hosts.specs.declared.line.Line.{Line}
-use Rattle.two_hosts.specs.declared.line.Line.TheVariants.{Guest, Offer, Deliver, GiveUp, Again, Show}
-use Rattle.two_hosts.specs.declared.reply.Reply.{Reply}
-use Rattle.two_hosts.specs.declared.reply.Reply.TheVariants as reply
+use Rattle.vt_script.specs.declared.reply.Reply.TheVariants as reply
 use Rattle.two_hosts.specs.Parts.{totals_of}
 use Rattle.two_hosts.specs.Deliveries.{SideState, Outcome, DeliveryContext, delivered, calls_of_delivery}
 
@@ -88,29 +84,6 @@ next_number sent = if nat_lt (length sent) bag_size then length sent + 1 else 0
 
 -- ---- injected faults
 
--- whether the reply says that a call failed on the wires of the host on which its line acted
-abbrev pub is_fault : Reply → Bool
-is_fault (reply.Guest r) = Rattle.crb_history.specs.Replies.is_fault r
-is_fault (reply.RefusedSent reason.Link message) = true
-is_fault (reply.RefusedSent reason.Busy message) = false
-is_fault (reply.RefusedSent reason.Totals message) = false
-is_fault (reply.RefusedSent reason.Record message) = false
-is_fault (reply.RefusedSent reason.Blob message) = false
-is_fault (reply.RefusedSent reason.Reply message) = false
-is_fault reply.Stopped = false
-is_fault reply.EpochEnd = false
-is_fault (reply.Offered epoch message) = false
-is_fault reply.NoMessage = false
-is_fault reply.Ignored = false
-is_fault reply.Took = false
-is_fault (reply.Sent message) = false
-is_fault reply.Running = false
-is_fault reply.Resumed = false
-is_fault reply.NotOffering = false
-is_fault (reply.ResumedSent message) = false
-is_fault reply.NotPrepared = false
-is_fault (reply.Shown bytes) = false
-
 -- whether one of so many next calls is to fail on the wires of a host
 abbrev pub fails_at : HostState → ℕ → Bool
 fails_at h calls = reaches h.injected_fault (h.calls + calls)
@@ -122,24 +95,16 @@ counted r calls h = record h { injected_fault = if is_fault r then None else h.i
 -- ---- lines of the guest
 
 -- a host after a line that acts on it, or that injects a fault into its wires
-abbrev pub host_after_guest : Base → History → Event → GuestReply → HostState → HostState
+abbrev pub host_after_guest : Base → History → Event → Reply → HostState → HostState
 host_after_guest b p line r h = record h { injected_fault = order_after (Some line) r h.injected_fault; calls = count_after (Some line) r (response_length b p) h.calls }
 
-abbrev pub guest_line_on : Base → TwoHosts → HostName → Event → GuestReply → TwoHosts
+abbrev pub guest_line_on : Base → TwoHosts → HostName → Event → Reply → TwoHosts
 guest_line_on b t n line r = with_host (record t { history = with_event (Some line) r (fails_at (host_of t n)) t.history }) n (host_after_guest b t.history line r (host_of t n))
 
 -- where no host runs nothing happens
-abbrev pub guest_line_on_any : Base → TwoHosts → Option HostName → Event → GuestReply → TwoHosts
+abbrev pub guest_line_on_any : Base → TwoHosts → Option HostName → Event → Reply → TwoHosts
 guest_line_on_any b t None line r = t
 guest_line_on_any b t (Some n) line r = guest_line_on b t n line r
-
--- a fault is injected into the wires of the host that its line names; the other lines act on the host that runs
-abbrev pub guest_line : Base → TwoHosts → Event → GuestReply → TwoHosts
-guest_line b t (Fail host call) r = guest_line_on b t host (Fail host call) r
-guest_line b t (Access access) r = guest_line_on_any b t (running_host t) (Access access) r
-guest_line b t Work r = guest_line_on_any b t (running_host t) Work r
-guest_line b t Ask r = guest_line_on_any b t (running_host t) Ask r
-guest_line b t Reset r = guest_line_on_any b t (running_host t) Reset r
 
 -- ---- offer
 
@@ -220,13 +185,13 @@ after_again t (Some n) = record t { sent = t.sent ++ message_from n (epoch_of (s
 
 -- ---- line by line
 
--- a line that is there for one host too, with its reply
-abbrev pub after_guest : Base → TwoHosts → Event → Reply → TwoHosts
-after_guest b t line (reply.Guest r) = guest_line b t line r
-after_guest b t line _ = t
-
-abbrev pub after_line : Base → ℕ → TwoHosts → Line → Reply → TwoHosts
-after_line b piece t (Guest line) r = after_guest b t line r
+-- A fault is injected into the wires of the host that its line names. The other lines of the guest act on the host that runs.
+abbrev pub after_line : Base → ℕ → TwoHosts → Event → Reply → TwoHosts
+after_line b piece t (Access access) r = guest_line_on_any b t (running_host t) (Access access) r
+after_line b piece t Work r = guest_line_on_any b t (running_host t) Work r
+after_line b piece t Ask r = guest_line_on_any b t (running_host t) Ask r
+after_line b piece t Reset r = guest_line_on_any b t (running_host t) Reset r
+after_line b piece t (Fail host call) r = guest_line_on b t host (Fail host call) r
 after_line b piece t Offer r = after_offer b t (running_host t) r
 after_line b piece t (Deliver k) r = after_delivery piece t (message_at t.sent k) r
 after_line b piece t GiveUp r = after_give_up t (host_where is_offering t)
@@ -243,20 +208,7 @@ first_hosts b = record {
   offered = λ epoch. b;
 }
 
--- a line, where it is in the grammar, with its reply
-pub record Exchange : Type 0 where
-  pub line : Option Line
-  pub reply : Reply
-
--- the line of an exchange
-abbrev pub line_of : Exchange → Option Line
-line_of x = x.line
-
--- the lines so far with their replies, the latest first
-abbrev pub Transcript : Type 0
-Transcript = List Exchange
-
-abbrev pub after_exchange : Base → ℕ → TwoHosts → Option Line → Reply → TwoHosts
+abbrev pub after_exchange : Base → ℕ → TwoHosts → Option Event → Reply → TwoHosts
 after_exchange b piece t None r = t
 after_exchange b piece t (Some line) r = after_line b piece t line r
 

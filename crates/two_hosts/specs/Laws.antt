@@ -10,10 +10,11 @@ use Rattle.move_core.specs.declared.side.Side.TheVariants.{Offering, Released, P
 use Rattle.move_core.specs.Sides.{is_active}
 use Rattle.two_hosts.specs.Parts.{part_bytes, totals_of}
 use Rattle.move_codec.specs.declared.names.HostName.{HostName}
-use Rattle.two_hosts.specs.declared.line.Line.{Line}
-use Rattle.two_hosts.specs.declared.line.Line.TheVariants.{Guest, Offer, Deliver, GiveUp, Again, Show}
+use Rattle.vt_script.specs.declared.event.Event.{Event}
+use Rattle.vt_script.specs.declared.event.Event.TheVariants.{Access, Work, Ask, Reset, Offer, Deliver, GiveUp, Again, Show, Fail}
 use Rattle.two_hosts.specs.Deliveries.{SideState}
-use Rattle.two_hosts.specs.Hosts.{TwoHosts, Transcript, hosts_after}
+use Rattle.two_hosts.specs.Hosts.{TwoHosts, hosts_after}
+use Rattle.crb_history.specs.Replies.{Transcript}
 use Rattle.two_hosts.specs.Replies.{InTurn}
 use Rattle.two_hosts.specs.Invariant.{IsSent, side_at, shown_side}
 
@@ -58,8 +59,12 @@ IsStale s e body.Abort = ⊥
 IsStale s e (body.Refuse why value) = ⊥
 
 -- a line that is there for two hosts alone
-abbrev pub IsMoveLine : Line → Type 0
-IsMoveLine (Guest line) = ⊥
+abbrev pub IsMoveLine : Event → Type 0
+IsMoveLine (Access access) = ⊥
+IsMoveLine Work = ⊥
+IsMoveLine Ask = ⊥
+IsMoveLine Reset = ⊥
+IsMoveLine (Fail host call) = ⊥
 IsMoveLine Offer = Unit {0}
 IsMoveLine (Deliver message) = Unit {0}
 IsMoveLine GiveUp = Unit {0}

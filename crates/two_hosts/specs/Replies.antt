@@ -2,12 +2,12 @@
 use Rattle.std.specs.Prelude.{◌≡◌, ℕ, ◌+◌, ◌-◌, ◌==◌, ◌^◌, ◌&&◌, Bool, false, nat_lt, if◌then◌else◌, List, [], ◌∷◌, Option, Some, None, ⊤}
 use Rattle.crb_regs.specs.Registers.{is_lost}
 use Rattle.vt_script.specs.declared.event.Event.{Event}
-use Rattle.vt_script.specs.declared.event.Event.TheVariants.{Access, Work, Ask, Reset, Fail}
-use Rattle.vt_script.specs.declared.reply.Reply.TheVariants as guest
+use Rattle.vt_script.specs.declared.event.Event.TheVariants.{Access, Work, Ask, Reset, Offer, Deliver, GiveUp, Again, Show, Fail}
+use Rattle.vt_script.specs.declared.reply.Reply.{Reply}
 use Rattle.crb_history.specs.Base.{Base}
 use Rattle.crb_history.specs.Device.{phase_of}
 use Rattle.crb_history.specs.Legal.{Legal}
-use Rattle.crb_history.specs.Replies.{Answers, is_under_way}
+use Rattle.crb_history.specs.Replies.{Answers, is_under_way, Transcript}
 use Rattle.move_codec.specs.declared.names.HostName.{HostName}
 use Rattle.move_codec.specs.declared.names.Reason.{Reason}
 use Rattle.move_codec.specs.declared.names.Reason.TheVariants.{Busy}
@@ -17,12 +17,9 @@ use Rattle.move_codec.specs.declared.message.Body.TheVariants as body
 use Rattle.move_codec.specs.Spelling.{spelling}
 use Rattle.move_core.specs.declared.answers.Delivered.{Delivered}
 use Rattle.move_core.specs.declared.answers.Delivered.TheVariants as delivers
-use Rattle.two_hosts.specs.declared.line.Line.{Line}
-use Rattle.two_hosts.specs.declared.line.Line.TheVariants.{Guest, Offer, Deliver, GiveUp, Again, Show}
-use Rattle.two_hosts.specs.declared.reply.Reply.{Reply}
-use Rattle.two_hosts.specs.declared.reply.Reply.TheVariants as reply
+use Rattle.vt_script.specs.declared.reply.Reply.TheVariants as reply
 use Rattle.two_hosts.specs.Deliveries.{delivered, calls_of_delivery}
-use Rattle.two_hosts.specs.Hosts.{TwoHosts, HostState, Transcript, hosts_after, host_of, host_where, running_host, is_offering, is_prepared, message_at, next_number, fails_at, context_for}
+use Rattle.two_hosts.specs.Hosts.{TwoHosts, HostState, hosts_after, host_of, host_where, running_host, is_offering, is_prepared, message_at, next_number, fails_at, context_for}
 
 -- ---- offer
 
@@ -30,10 +27,10 @@ use Rattle.two_hosts.specs.Hosts.{TwoHosts, HostState, Transcript, hosts_after, 
 -- greater epoch is left, a call fails
 abbrev pub offer_reply_at : Bool → Bool → TwoHosts → HostState → Reply
 offer_reply_at lost under_way t h =
-    if lost then reply.Guest guest.FailedDevice
-    else (if under_way then reply.Guest guest.NotYet
+    if lost then reply.FailedDevice
+    else (if under_way then reply.NotYet
     else (if h.side.top == 2 ^ 64 - 1 then reply.EpochEnd
-    else (if fails_at h 9 then reply.Guest guest.Link
+    else (if fails_at h 9 then reply.Link
     else reply.Offered (h.side.top + 1) (next_number t.sent))))
 
 abbrev pub offer_reply : Base → TwoHosts → Option HostName → Reply
@@ -50,11 +47,11 @@ reason_in _ = Busy
 abbrev pub delivery_reply : List Message → Delivered → Reply
 delivery_reply sent delivers.Ignored = reply.Ignored
 delivery_reply sent delivers.Took = reply.Took
-delivery_reply sent (delivers.Sent m) = reply.Sent (next_number sent)
+delivery_reply sent (delivers.Sent m) = reply.SentMessage (next_number sent)
 delivery_reply sent delivers.Runs = reply.Running
 delivery_reply sent delivers.Resumed = reply.Resumed
 delivery_reply sent (delivers.Refused m) = reply.RefusedSent (reason_in m.body) (next_number sent)
-delivery_reply sent (delivers.Wires fault) = reply.Guest guest.Link
+delivery_reply sent (delivers.Wires fault) = reply.Link
 
 -- whether the injected fault occurs in a delivery: the receiver makes calls, and these bring its count to the number
 abbrev pub meets_fault : ℕ → TwoHosts → Message → Bool
@@ -75,7 +72,7 @@ give_up_reply t (Some n) = reply.ResumedSent (next_number t.sent)
 
 abbrev pub again_reply : TwoHosts → Option HostName → Reply
 again_reply t None = reply.NotPrepared
-again_reply t (Some n) = reply.Sent (next_number t.sent)
+again_reply t (Some n) = reply.SentMessage (next_number t.sent)
 
 abbrev pub show_reply : Option Message → Reply
 show_reply None = reply.NoMessage
@@ -83,34 +80,27 @@ show_reply (Some m) = reply.Shown (spelling m)
 
 -- ---- a line of the guest
 
--- a reply as for one host
-abbrev pub GuestAnswers : Base → TwoHosts → HostState → Event → Reply → Type 0
-GuestAnswers b t h line (reply.Guest r) = Answers b t.history (fails_at h) (Some line) r
-GuestAnswers b t h line r = ⊥
-
+-- as for one host
 abbrev pub AnswersOn : Base → TwoHosts → Option HostName → Event → Reply → Type 0
 AnswersOn b t None line r = r ≡ reply.Stopped
-AnswersOn b t (Some n) line r = GuestAnswers b t (host_of t n) line r
-
--- on the host that runs; a fault may be injected into the wires of either host
-abbrev pub AnswersGuest : Base → TwoHosts → Event → Reply → Type 0
-AnswersGuest b t (Fail host call) r = r ≡ reply.Guest guest.Accepted
-AnswersGuest b t (Access access) r = AnswersOn b t (running_host t) (Access access) r
-AnswersGuest b t Work r = AnswersOn b t (running_host t) Work r
-AnswersGuest b t Ask r = AnswersOn b t (running_host t) Ask r
-AnswersGuest b t Reset r = AnswersOn b t (running_host t) Reset r
+AnswersOn b t (Some n) line r = Answers b t.history (fails_at (host_of t n)) (Some line) r
 
 -- ---- each line
 
-abbrev pub AnswersLine : Base → ℕ → TwoHosts → Line → Reply → Type 0
-AnswersLine b piece t (Guest line) r = AnswersGuest b t line r
+-- A line of the guest acts on the host that runs. A fault may be injected into the wires of either host.
+abbrev pub AnswersLine : Base → ℕ → TwoHosts → Event → Reply → Type 0
+AnswersLine b piece t (Access access) r = AnswersOn b t (running_host t) (Access access) r
+AnswersLine b piece t Work r = AnswersOn b t (running_host t) Work r
+AnswersLine b piece t Ask r = AnswersOn b t (running_host t) Ask r
+AnswersLine b piece t Reset r = AnswersOn b t (running_host t) Reset r
+AnswersLine b piece t (Fail host call) r = r ≡ reply.Accepted
 AnswersLine b piece t Offer r = r ≡ offer_reply b t (running_host t)
 AnswersLine b piece t (Deliver k) r = r ≡ deliver_reply piece t (message_at t.sent k)
 AnswersLine b piece t GiveUp r = r ≡ give_up_reply t (host_where is_offering t)
 AnswersLine b piece t Again r = r ≡ again_reply t (host_where is_prepared t)
 AnswersLine b piece t (Show k) r = r ≡ show_reply (message_at t.sent k)
 
-abbrev pub AnswersIn : Base → ℕ → TwoHosts → Option Line → Reply → Type 0
+abbrev pub AnswersIn : Base → ℕ → TwoHosts → Option Event → Reply → Type 0
 AnswersIn b piece t None r = ⊥
 AnswersIn b piece t (Some line) r = AnswersLine b piece t line r
 

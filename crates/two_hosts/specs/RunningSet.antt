@@ -3,12 +3,11 @@ use Rattle.std.specs.Prelude.{Bool, true, false, not, ◌||◌, if◌then◌else
 use Rattle.move_codec.specs.declared.names.HostName.{HostName}
 use Rattle.move_codec.specs.declared.names.HostName.TheVariants.{A, B}
 use Rattle.move_core.specs.Sides.{other}
-use Rattle.vt_script.specs.declared.event.Event.TheVariants.{Access, Work, Ask, Reset, Fail}
-use Rattle.two_hosts.specs.declared.line.Line.{Line}
-use Rattle.two_hosts.specs.declared.line.Line.TheVariants.{Guest, Offer, Deliver, GiveUp, Again, Show}
-use Rattle.two_hosts.specs.declared.reply.Reply.{Reply}
-use Rattle.two_hosts.specs.declared.reply.Reply.TheVariants as reply
-use Rattle.two_hosts.specs.Hosts.{Transcript}
+use Rattle.vt_script.specs.declared.event.Event.{Event}
+use Rattle.vt_script.specs.declared.event.Event.TheVariants.{Access, Work, Ask, Reset, Offer, Deliver, GiveUp, Again, Show, Fail}
+use Rattle.vt_script.specs.declared.reply.Reply.{Reply}
+use Rattle.vt_script.specs.declared.reply.Reply.TheVariants as reply
+use Rattle.crb_history.specs.Replies.{Transcript}
 
 -- the hosts that run, and the source of the latest offer
 pub record RunningSet : Type 0 where
@@ -38,13 +37,26 @@ after_reply (reply.Offered epoch message) r = without_source r
 after_reply reply.Resumed r = insert r.source r
 after_reply (reply.ResumedSent message) r = insert r.source r
 after_reply reply.Running r = insert (other r.source) r
-after_reply (reply.Guest answer) r = r
+after_reply (reply.Value value size) r = r
+after_reply reply.Accepted r = r
+after_reply reply.Idle r = r
+after_reply (reply.Claim number) r = r
+after_reply (reply.Sent number) r = r
+after_reply (reply.Exec number) r = r
+after_reply (reply.Done number) r = r
+after_reply (reply.Cancelled number) r = r
+after_reply (reply.Lost number) r = r
+after_reply reply.Link r = r
+after_reply reply.Asked r = r
+after_reply reply.FailedDevice r = r
+after_reply reply.NotYet r = r
+after_reply reply.Reset r = r
 after_reply reply.Stopped r = r
 after_reply reply.EpochEnd r = r
 after_reply reply.NoMessage r = r
 after_reply reply.Ignored r = r
 after_reply reply.Took r = r
-after_reply (reply.Sent message) r = r
+after_reply (reply.SentMessage message) r = r
 after_reply (reply.RefusedSent why message) r = r
 after_reply reply.NotOffering r = r
 after_reply reply.NotPrepared r = r
@@ -56,12 +68,12 @@ running_set [] = record { a = true; b = false; source = A }
 running_set (x ∷ t) = after_reply x.reply (running_set t)
 
 -- whether a line acts on the host that runs
-abbrev pub needs_running : Line → Bool
-needs_running (Guest (Access access)) = true
-needs_running (Guest Work) = true
-needs_running (Guest Ask) = true
-needs_running (Guest Reset) = true
-needs_running (Guest (Fail host call)) = false
+abbrev pub needs_running : Event → Bool
+needs_running (Access access) = true
+needs_running Work = true
+needs_running Ask = true
+needs_running Reset = true
+needs_running (Fail host call) = false
 needs_running Offer = true
 needs_running (Deliver message) = false
 needs_running GiveUp = false

@@ -4,14 +4,14 @@ use Rattle.crb_regs.specs.Registers.{is_lost}
 use Rattle.crb_history.specs.Base.{Base}
 use Rattle.crb_history.specs.Continued.{base_after}
 use Rattle.crb_history.specs.Device.{phase_of}
-use Rattle.crb_history.specs.Replies.{is_under_way}
+use Rattle.crb_history.specs.Replies.{is_under_way, Exchange, Transcript}
 use Rattle.move_codec.specs.declared.names.HostName.{HostName}
 use Rattle.move_codec.specs.declared.names.Part.TheVariants.{Record, Permanent, Volatile, Saved}
 use Rattle.move_core.specs.Sides.{other, is_running}
-use Rattle.two_hosts.specs.declared.line.Line.TheVariants.{Offer, Deliver}
-use Rattle.two_hosts.specs.declared.reply.Reply.TheVariants.{Sent, Running}
+use Rattle.vt_script.specs.declared.event.Event.TheVariants.{Offer, Deliver}
+use Rattle.vt_script.specs.declared.reply.Reply.TheVariants.{SentMessage, Running}
 use Rattle.two_hosts.specs.Parts.{part_bytes}
-use Rattle.two_hosts.specs.Hosts.{TwoHosts, Exchange, Transcript, hosts_after, host_of, stage_at, running_host, message_at, bag_size}
+use Rattle.two_hosts.specs.Hosts.{TwoHosts, hosts_after, host_of, stage_at, running_host, message_at, bag_size}
 use Rattle.two_hosts.specs.Replies.{InTurn, offer_reply, deliver_reply}
 
 -- how many pieces of at most this size carry so many bytes
@@ -56,7 +56,7 @@ pub record CanMove (b : Base) (piece : ℕ) (w : TwoHosts) (n : HostName) : Type
 -- With n pieces a move takes 2 n + 3 deliveries: each but the last one is answered by one more message, and the last one by
 -- `running`. Then the other host runs.
 pub record MovesOver (b : Base) (piece : ℕ) (t : Transcript) (n : HostName) (count : ℕ) : Type 0 where
-  pub sends : (k : ℕ) → k < 2 * count + 2 → (deliver_last b piece (deliveries b piece k t)).reply ≡ Sent (length (hosts_after b piece t).sent + 1 + k)
+  pub sends : (k : ℕ) → k < 2 * count + 2 → (deliver_last b piece (deliveries b piece k t)).reply ≡ SentMessage (length (hosts_after b piece t).sent + 1 + k)
   pub runs : (deliver_last b piece (deliveries b piece (2 * count + 2) t)).reply ≡ Running
   pub target : is_running (stage_at (hosts_after b piece (deliveries b piece (2 * count + 3) t)) (other n)) ≡ true
   pub in_turn : InTurn b piece (deliveries b piece (2 * count + 3) t)

@@ -10,11 +10,12 @@ ghost use Rattle.move_codec.specs.declared.message.Body.TheVariants.{Commit, Pre
 ghost use Rattle.move_core.specs.declared.side.Side.TheVariants.{Released};
 ghost use Rattle.move_core.specs.Sides.{is_running};
 ghost use Rattle.move_core.specs.Table.{message_from};
-ghost use Rattle.two_hosts.specs.declared.line.Line.{Line};
-ghost use Rattle.two_hosts.specs.declared.line.Line.TheVariants.{GiveUp};
-ghost use Rattle.two_hosts.specs.declared.reply.Reply.{Reply};
-ghost use Rattle.two_hosts.specs.declared.reply.Reply.TheVariants.{Ignored, Sent, Offered, RefusedSent, EpochEnd};
-ghost use Rattle.two_hosts.specs.Hosts.{TwoHosts, Transcript, line_of, hosts_after, first_hosts, host_of, stage_at, message_at, is_fault, running_host, next_number, after_delivery, after_line};
+ghost use Rattle.vt_script.specs.declared.event.Event.{Event};
+ghost use Rattle.vt_script.specs.declared.event.Event.TheVariants.{GiveUp};
+ghost use Rattle.vt_script.specs.declared.reply.Reply.{Reply};
+ghost use Rattle.vt_script.specs.declared.reply.Reply.TheVariants.{Ignored, SentMessage, Offered, RefusedSent, EpochEnd};
+ghost use Rattle.two_hosts.specs.Hosts.{TwoHosts, hosts_after, first_hosts, host_of, stage_at, message_at, running_host, next_number, after_delivery, after_line};
+ghost use Rattle.crb_history.specs.Replies.{Transcript, line_of, is_fault};
 ghost use Rattle.two_hosts.specs.Replies.{IsRun, InTurn, AnswersLine, deliver_reply, offer_reply, meets_fault};
 ghost use Rattle.two_hosts.specs.Invariant.{HostsInvariant, side_at, shown_side};
 ghost use Rattle.two_hosts.specs.Laws.{Always, NeverTwoActive, NoneMeansHandedOver, NeverBothSent, EachMessageIsTrue, IsStale, IsMoveLine, IsOffering, StaysOffering};
@@ -47,7 +48,7 @@ pub fn replies_say_who_runs()
     ensures same { (b : Base) (piece : ℕ) (t : Transcript) → InTurn b piece t
         → (n : HostName) → contains (running_set t) n ≡ is_running (stage_at (hosts_after b piece t) n) }
     ensures one { (b : Base) (piece : ℕ) (t : Transcript) → InTurn b piece t → ((running_set t).a && (running_set t).b) ≡ false }
-    ensures stopped { (b : Base) (piece : ℕ) (t : Transcript) (line : Line) (r : Reply) → InTurn b piece t
+    ensures stopped { (b : Base) (piece : ℕ) (t : Transcript) (line : Event) (r : Reply) → InTurn b piece t
         → AnswersLine b piece (hosts_after b piece t) line r → is_stopped r ≡ (needs_running line && is_empty (running_set t)) }
 {}
 
@@ -59,8 +60,8 @@ pub fn late_messages_are_ignored()
         → (deliver_reply piece t (Some m) ≡ Ignored) × (after_delivery piece t (Some m) Ignored ≡ t) }
     ensures commits_again { (piece : ℕ) (t : TwoHosts) (m : Message) → m.body ≡ PreparedBody
         → shown_side (side_at t m.to) ≡ Released m.epoch
-        → (deliver_reply piece t (Some m) ≡ Sent (next_number t.sent))
-        × (after_delivery piece t (Some m) (Sent (next_number t.sent))
+        → (deliver_reply piece t (Some m) ≡ SentMessage (next_number t.sent))
+        × (after_delivery piece t (Some m) (SentMessage (next_number t.sent))
         ≡ record t { sent = t.sent ++ message_from m.to m.epoch Commit ∷ [] }) }
 {}
 
@@ -68,9 +69,9 @@ pub fn late_messages_are_ignored()
 /// its offer up runs again after the history that was there when it offered.
 #[tactic(auto, using(crate::proofs::GivenUp::moves_leave, crate::proofs::GivenUp::stopped_leaves))]
 pub fn given_up_moves_leave_the_guest()
-    ensures moves { (b : Base) (piece : ℕ) (t : TwoHosts) (line : Line) (r : Reply) → IsMoveLine line
+    ensures moves { (b : Base) (piece : ℕ) (t : TwoHosts) (line : Event) (r : Reply) → IsMoveLine line
         → (after_line b piece t line r).history ≡ t.history }
-    ensures stopped { (b : Base) (piece : ℕ) (t : TwoHosts) (line : Line) (r : Reply) → running_host t ≡ None
+    ensures stopped { (b : Base) (piece : ℕ) (t : TwoHosts) (line : Event) (r : Reply) → running_host t ≡ None
         → (after_line b piece t line r).history ≡ t.history }
     ensures given_up { (b : Base) (piece : ℕ) (n : HostName) (e : ℕ) (more t : Transcript) (r : Reply) → InTurn b piece (more ++ t)
         → StaysOffering b piece n e more t → IsOffering (hosts_after b piece (more ++ t)) n e
@@ -108,7 +109,7 @@ pub fn undisturbed_moves_end()
 #[tactic(auto, using(crate::proofs::InvariantKept::first_kept, crate::proofs::InvariantKept::line_kept, crate::proofs::InvariantKept::run_kept))]
 pub fn lines_keep_the_invariant()
     ensures first { (b : Base) → HostsInvariant b (first_hosts b) }
-    ensures line { (b : Base) (piece : ℕ) (w : TwoHosts) (line : Line) (r : Reply) → HostsInvariant b w
+    ensures line { (b : Base) (piece : ℕ) (w : TwoHosts) (line : Event) (r : Reply) → HostsInvariant b w
         → AnswersLine b piece w line r → HostsInvariant b (after_line b piece w line r) }
     ensures run { (b : Base) (piece : ℕ) (t : Transcript) → InTurn b piece t → HostsInvariant b (hosts_after b piece t) }
 {}

@@ -15,8 +15,3 @@
 #![tactic(auto)]
 
 pub mod laws;
-mod line;
-mod reply;
-
-pub use line::Line;
-pub use reply::Reply;

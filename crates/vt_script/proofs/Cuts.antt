@@ -5,7 +5,7 @@ use Rattle.std.specs.List.{position, position_or_len, slice_split, onto_first}
 use Rattle.std.proofs.lemmas.List.{drop-drop}
 use Rattle.std.proofs.lemmas.List.Splits.{slice_split_first}
 use Rattle.std.proofs.lemmas.Bool.Decides.{nat_tests}
-use Rattle.vt_script.specs.Script.{parts_of, without_empty_end, lines_of, words_event, event_of_words, read_of, write_of, fail_of}
+use Rattle.vt_script.specs.Script.{parts_of, without_empty_end, lines_of, words_event, event_of_words, read_of, write_of, fail_of, only_ordinal}
 use Rattle.vt_script.specs.Drive.{command_of, lost_message_of, drive_words, drive_of_words}
 
 pub parts-Some : (separator : ℕ) (xs : List ℕ) (at : ℕ) → position (λ b. b == separator) xs ≡ Some at → parts_of separator xs ≡ take at xs ∷ parts_of separator (drop (at + 1) xs)
@@ -66,6 +66,10 @@ write_of-more first second third rest = let more = parts_some 32 rest in rw more
 -- `fail` has two words after it
 pub fail_of-more : (first second rest : List ℕ) → fail_of (first ∷ second ∷ parts_of 32 rest) ≡ None
 fail_of-more first second rest = let more = parts_some 32 rest in rw more.2 refl
+
+-- an ordinal is one word
+pub only_ordinal-more : (first rest : List ℕ) → only_ordinal (first ∷ parts_of 32 rest) ≡ None
+only_ordinal-more first rest = let more = parts_some 32 rest in rw more.2 refl
 
 -- a name with more words after it, on a drive line
 pub drive_of_words-more : (name rest : List ℕ) → drive_of_words (name ∷ parts_of 32 rest) ≡ drive_words name (parts_of 32 rest)

@@ -2,14 +2,14 @@
 use Rattle.std.specs.Prelude.{ℕ, ◌≡◌, if◌then◌else◌, List, [], ◌∷◌, ◌++◌, Option, Some, None, option_and_then, Result, Ok, Err, ⊤}
 use Rattle.std.specs.Str.{bytes_eq}
 use lib.Chars.{codes}
-use Rattle.hex.specs.Hex.{decode_of, encode_lower}
+use Rattle.hex.specs.Hex.{decode_of}
 use Rattle.hex.specs.declared.error.FromHexError.{FromHexError}
 use Rattle.tpm_frame.specs.Sizes.{IsWellSized, is_well_sized}
 use Rattle.vt_script.specs.declared.drive.DriveLine.{DriveLine}
 use Rattle.vt_script.specs.declared.drive.DriveLine.TheVariants.{Cmd, Move, MoveFail}
 use Rattle.vt_script.specs.Numbers.{space}
 use Rattle.vt_script.specs.Script.{parts_of, ordinal_of, IsOrdinal}
-use Rattle.vt_script.specs.Replies.{ended}
+pub use Rattle.vt_script.specs.Replies.{hex_line}
 
 -- the line of a command that was decoded, where it is well sized
 abbrev pub sized_command : Result (List ℕ) FromHexError → Option DriveLine
@@ -59,7 +59,3 @@ pub record SpellsCommand (bytes line : List ℕ) : Type 0 where
   pub spelling : line ≡ codes "cmd " ++ digits
   pub decoded : decode_of digits ≡ Ok bytes
   pub sized : IsWellSized bytes
-
--- the text of a response: two lower-case hexadecimal digits for each byte, ended by LF
-unfoldable pub hex_line : List ℕ → List ℕ
-hex_line bytes = ended (encode_lower bytes)

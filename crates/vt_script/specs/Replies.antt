@@ -5,7 +5,10 @@ use lib.Chars.{codes}
 use Rattle.crb_regs.specs.Access.{IsAccessSize}
 use Rattle.vt_script.specs.Numbers.{line_feed}
 use Rattle.vt_script.specs.declared.reply.Reply.{Reply}
-use Rattle.vt_script.specs.declared.reply.Reply.TheVariants.{Value, Accepted, Idle, Claim, Sent, Exec, Done, Cancelled, Lost, Link, Asked, FailedDevice, NotYet, Reset}
+use Rattle.vt_script.specs.declared.reply.Reply.TheVariants.{Stopped, Value, Accepted, Idle, Claim, Sent, Exec, Done, Cancelled, Lost, Link, Asked, FailedDevice, NotYet, Reset, EpochEnd, Offered, NoMessage, Ignored, Took, SentMessage, Running, Resumed, RefusedSent, NotOffering, ResumedSent, NotPrepared, Shown}
+use Rattle.hex.specs.Hex.{encode_lower}
+use Rattle.move_codec.specs.declared.names.Reason.{Reason}
+use Rattle.move_codec.specs.declared.names.Reason.TheVariants as reason
 
 -- the lower-case hexadecimal digit of a number below 16
 abbrev pub hex_digit : ℕ → ℕ
@@ -24,8 +27,26 @@ ended text = text ++ line_feed ∷ []
 abbrev pub numbered : List ℕ → ℕ → List ℕ
 numbered name number = ended (name ++ decimal number)
 
+-- the words before the number of the message by which a move is refused
+abbrev pub refusal_words : Reason → List ℕ
+refusal_words reason.Busy = codes "refused busy sent "
+refusal_words reason.Totals = codes "refused totals sent "
+refusal_words reason.Record = codes "refused record sent "
+refusal_words reason.Blob = codes "refused blob sent "
+refusal_words reason.Link = codes "refused link sent "
+refusal_words reason.Reply = codes "refused reply sent "
+
+-- the text of an offer, ended by LF
+abbrev pub offered_text : ℕ → ℕ → List ℕ
+offered_text epoch message = numbered (codes "offered " ++ decimal epoch ++ codes " sent ") message
+
+-- bytes as two lower-case hexadecimal digits each, ended by LF
+unfoldable pub hex_line : List ℕ → List ℕ
+hex_line bytes = ended (encode_lower bytes)
+
 -- the text of a reply, ended by LF
 unfoldable pub reply_text : Reply → List ℕ
+reply_text Stopped = ended (codes "stopped")
 reply_text (Value value size) = ended (hex_digits (2 * size) value)
 reply_text Accepted = ended (codes "ok")
 reply_text Idle = ended (codes "idle")
@@ -40,8 +61,47 @@ reply_text Asked = ended (codes "asked")
 reply_text FailedDevice = ended (codes "failed device")
 reply_text NotYet = ended (codes "not yet")
 reply_text Reset = ended (codes "reset")
+reply_text EpochEnd = ended (codes "epoch end")
+reply_text (Offered epoch message) = offered_text epoch message
+reply_text NoMessage = ended (codes "no message")
+reply_text Ignored = ended (codes "ignored")
+reply_text Took = ended (codes "took")
+reply_text (SentMessage message) = numbered (codes "sent ") message
+reply_text Running = ended (codes "running")
+reply_text Resumed = ended (codes "resumed")
+reply_text (RefusedSent why message) = numbered (refusal_words why) message
+reply_text NotOffering = ended (codes "not offering")
+reply_text (ResumedSent message) = numbered (codes "resumed sent ") message
+reply_text NotPrepared = ended (codes "not prepared")
+reply_text (Shown bytes) = hex_line bytes
 
 -- a value that was read has 1, 2, 4 or 8 bytes and fits them
 abbrev pub IsPrintable : Reply → Type 0
 IsPrintable (Value value size) = IsAccessSize size × (value < 256 ^ size)
-IsPrintable _ = Unit {0}
+IsPrintable Stopped = Unit {0}
+IsPrintable Accepted = Unit {0}
+IsPrintable Idle = Unit {0}
+IsPrintable (Claim number) = Unit {0}
+IsPrintable (Sent number) = Unit {0}
+IsPrintable (Exec number) = Unit {0}
+IsPrintable (Done number) = Unit {0}
+IsPrintable (Cancelled number) = Unit {0}
+IsPrintable (Lost number) = Unit {0}
+IsPrintable Link = Unit {0}
+IsPrintable Asked = Unit {0}
+IsPrintable FailedDevice = Unit {0}
+IsPrintable NotYet = Unit {0}
+IsPrintable Reset = Unit {0}
+IsPrintable EpochEnd = Unit {0}
+IsPrintable (Offered epoch message) = Unit {0}
+IsPrintable NoMessage = Unit {0}
+IsPrintable Ignored = Unit {0}
+IsPrintable Took = Unit {0}
+IsPrintable (SentMessage message) = Unit {0}
+IsPrintable Running = Unit {0}
+IsPrintable Resumed = Unit {0}
+IsPrintable (RefusedSent why message) = Unit {0}
+IsPrintable NotOffering = Unit {0}
+IsPrintable (ResumedSent message) = Unit {0}
+IsPrintable NotPrepared = Unit {0}
+IsPrintable (Shown bytes) = Unit {0}

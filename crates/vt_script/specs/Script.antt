@@ -4,10 +4,10 @@ use Rattle.std.specs.List.{slice_split}
 use Rattle.std.specs.Str.{bytes_eq}
 use lib.Chars.{codes}
 use Rattle.move_codec.specs.declared.names.HostName.{HostName}
-use Rattle.move_codec.specs.declared.names.HostName.TheVariants.{A}
+use Rattle.move_codec.specs.declared.names.HostName.TheVariants.{A, B}
 use Rattle.vt_script.specs.Numbers.{space, line_feed}
 use Rattle.vt_script.specs.declared.event.Event.{Event}
-use Rattle.vt_script.specs.declared.event.Event.TheVariants.{Access, Work, Ask, Reset, Fail}
+use Rattle.vt_script.specs.declared.event.Event.TheVariants.{Access, Work, Ask, Reset, Offer, Deliver, GiveUp, Again, Show, Fail}
 
 -- the parts between separators; there is one more of them than separators
 abbrev pub parts_of : ℕ → List ℕ → List (List ℕ)
@@ -62,7 +62,10 @@ value_of size word = number_of 16 (2 * size) word
 
 -- the host that a word names
 abbrev pub host_of : List ℕ → Option HostName
-host_of word = if bytes_eq word (codes "a") then Some A else None
+host_of word =
+    if bytes_eq word (codes "a") then Some A
+    else (if bytes_eq word (codes "b") then Some B
+    else None)
 
 -- the size that a word names
 abbrev pub size_of : List ℕ → Option ℕ
@@ -97,13 +100,33 @@ abbrev pub fail_of : List (List ℕ) → Option Event
 fail_of (host ∷ call ∷ []) = option_and_then (λ h. option_and_then (λ k. Some (Fail h k)) (ordinal_of call)) (host_of host)
 fail_of _ = None
 
+-- the one ordinal that these words are
+abbrev pub only_ordinal : List (List ℕ) → Option ℕ
+only_ordinal (word ∷ []) = ordinal_of word
+only_ordinal _ = None
+
+-- what a line of one word of a move asks for
+abbrev pub move_word_event : List ℕ → Option Event
+move_word_event word =
+    if bytes_eq word (codes "offer") then Some Offer
+    else (if bytes_eq word (codes "giveup") then Some GiveUp
+    else (if bytes_eq word (codes "again") then Some Again
+    else None))
+
 -- what a line of one word asks for
 abbrev pub word_event : List ℕ → Option Event
 word_event word =
     if bytes_eq word (codes "work") then Some Work
     else (if bytes_eq word (codes "ask") then Some Ask
     else (if bytes_eq word (codes "reset") then Some Reset
-    else None))
+    else move_word_event word))
+
+-- what a line of a name and a message asks for
+abbrev pub move_words_event : List ℕ → List (List ℕ) → Option Event
+move_words_event name words =
+    if bytes_eq name (codes "deliver") then option_and_then (λ k. Some (Deliver k)) (only_ordinal words)
+    else (if bytes_eq name (codes "show") then option_and_then (λ k. Some (Show k)) (only_ordinal words)
+    else None)
 
 -- what a line of a name and more words asks for
 abbrev pub words_event : List ℕ → List (List ℕ) → Option Event
@@ -111,7 +134,7 @@ words_event name words =
     if bytes_eq name (codes "r") then read_of words
     else (if bytes_eq name (codes "w") then write_of words
     else (if bytes_eq name (codes "fail") then fail_of words
-    else None))
+    else move_words_event name words))
 
 -- what the words of a line ask for
 abbrev pub event_of_words : List (List ℕ) → Option Event
@@ -122,3 +145,16 @@ event_of_words (name ∷ first ∷ words) = words_event name (first ∷ words)
 -- what a line asks for; `None` where it isn't in the grammar
 unfoldable pub event_of : List ℕ → Option Event
 event_of line = event_of_words (parts_of space line)
+
+-- the calls on wires and the messages have numbers from 1 on
+abbrev pub HasNumber : Event → Type 0
+HasNumber (Access access) = Unit {0}
+HasNumber Work = Unit {0}
+HasNumber Ask = Unit {0}
+HasNumber Reset = Unit {0}
+HasNumber Offer = Unit {0}
+HasNumber (Deliver message) = 1 ≤ message
+HasNumber GiveUp = Unit {0}
+HasNumber Again = Unit {0}
+HasNumber (Show message) = 1 ≤ message
+HasNumber (Fail host call) = 1 ≤ call

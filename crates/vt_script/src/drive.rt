@@ -4,7 +4,8 @@ ghost use Rattle.hex.specs.Hex.{decode_of, encode_lower, IsBytes};
 ghost use Rattle.vt_script.specs.Script.{parts_of};
 ghost use Rattle.tpm_frame.specs.Sizes.{IsWellSized};
 ghost use Rattle.vt_script.specs.Drive.{sized_command, command_of, lost_message_of, drive_word, drive_words, drive_of};
-ghost use Rattle.vt_script.specs.Drive.{IsDriveLine, SpellsCommand, hex_line};
+ghost use Rattle.vt_script.specs.Drive.{IsDriveLine, SpellsCommand};
+ghost use Rattle.vt_script.specs.Replies.{hex_line};
 
 use crate::number::ordinal;
 use crate::parts::{LINE_FEED, SPACE, first_part};
@@ -120,7 +121,7 @@ pub fn commands_are_read_as_spelled()
 {}
 
 /// Appends the text of a response: two lower-case hexadecimal digits for each byte, and LF. An `Err` is want of memory.
-#[tactic(auto, unfolding(crate::specs::Drive::hex_line))]
+#[tactic(auto, unfolding(crate::specs::Replies::hex_line))]
 pub fn print_response(alloc: Global, response: &[u8], into: &mut Vec<u8>) -> Result<(), AllocError>
     ensures ok { OnOk result (into.new.items ≡ into.old.items ++ hex_line response.now) }
     ensures err { OnErr result (into.new.items ≡ into.old.items) }

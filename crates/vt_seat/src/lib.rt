@@ -22,6 +22,7 @@
 
 mod blobs;
 pub mod laws;
+mod messages;
 mod moves;
 mod saving;
 mod seat;

@@ -1,7 +1,7 @@
 //! One seat: a host with its worker and the wires to its emulator.
 ghost use Rattle.std.specs.Prelude.{◌≡◌, ◌≤◌, ◌-◌, [], true, Some, IfOk};
 ghost use Rattle.crb_history.specs.Base.{Base, fresh};
-ghost use Rattle.crb_history.specs.OneHost.{OneHost};
+ghost use Rattle.crb_history.specs.OneHost.{OneHost, IsOneHostLine};
 ghost use Rattle.vt_script.specs.Replies.{IsPrintable};
 ghost use Rattle.move_core.specs.Sides.{is_running};
 ghost use Rattle.vt_seat.specs.Wires.{emulator_of};
@@ -130,9 +130,10 @@ impl Seat<PlainPort> {
         Ok(seat)
     }
 
-    /// Does one line, and gives its reply. The host that a line `fail` names isn't looked at.
+    /// Does one line that isn't one of a move, and gives its reply. The host that a line `fail` names isn't looked at.
     pub fn step(&mut self, line: &Event) -> Reply
         requires runs { is_running self.old.host.stage ≡ true }
+        requires one_host { IsOneHostLine line.now }
         ensures steps { (b : Base) (s : OneHost) → FollowsIn b s (world_of self.old) → StepsIn b s line.now result (world_of self.new) }
         ensures others { self.new.host ≡ record self.old.host { device = self.new.host.device } }
         ensures faults { (b : Base) (s : OneHost) → FollowsIn b s (world_of self.old) → CountsFault result self.old.faults self.new.faults }
@@ -145,6 +146,8 @@ impl Seat<PlainPort> {
             Event::Ask => self.ask(),
             Event::Reset => self.reset(),
             Event::Fail { host, call } => self.fail(*host, *call),
+            Event::Offer | Event::Deliver(_) | Event::GiveUp | Event::Again | Event::Show(_) =>
+                unreachable!(),
         }
     }
 

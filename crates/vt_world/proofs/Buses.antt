@@ -92,18 +92,7 @@ clash None some none = cc
 accepted : (b : Base) (t : OneHost) (a : Access) (reply : Reply) (new : WorldState) → IsSome a.write → StepsIn b t (AccessLine a) reply new → reply ≡ replied.Accepted
 accepted b t a replied.Accepted new some one = refl
 accepted b t a (replied.Value v s) new some one = absurd (clash a.write some one.answers.0)
-accepted b t a replied.Idle new some one = absurd one.answers
-accepted b t a (replied.Claim n) new some one = absurd one.answers
-accepted b t a (replied.Sent n) new some one = absurd one.answers
-accepted b t a (replied.Exec n) new some one = absurd one.answers
-accepted b t a (replied.Done n) new some one = absurd one.answers
-accepted b t a (replied.Cancelled n) new some one = absurd one.answers
-accepted b t a (replied.Lost n) new some one = absurd one.answers
-accepted b t a replied.Link new some one = absurd one.answers
-accepted b t a replied.Asked new some one = absurd one.answers
-accepted b t a replied.FailedDevice new some one = absurd one.answers
-accepted b t a replied.NotYet new some one = absurd one.answers
-accepted b t a replied.Reset new some one = absurd one.answers
+accepted b t a _ new some one = absurd one.answers
 
 after-write : (b : Base) (p : History) (a : Access) (value : ℕ) (write : Option ℕ) (start : Bool) → IsSome write
     → Write a ∷ p ≡ (if is_none write && start then after_turn b (event_by write a value ∷ p) else event_by write a value ∷ p)

@@ -1,11 +1,12 @@
 -- A world is saved, and made again from what was saved. (Own definitions.)
-use Rattle.std.specs.Prelude.{◌≡◌, ℕ, List, []}
+use Rattle.std.specs.Prelude.{ℕ, List}
 use Rattle.saved_stream.specs.Streams.{IsStream}
 use Rattle.saved_stream.specs.Refusals.{IsStreamRefused}
 use Rattle.crb_history.specs.Base.{Base}
 use Rattle.crb_history.specs.Replies.{Transcript, history}
 use Rattle.crb_history.specs.OneHost.{one_told}
-use Rattle.vt_seat.specs.Follows.{Follows}
+use Rattle.two_hosts.specs.Hosts.{first_hosts}
+use Rattle.two_seats.specs.Both.{FollowsBoth}
 use Rattle.vt_seat.specs.State.{WorldState}
 use Rattle.vt_seat.specs.Saving as seat
 use Rattle.vt_seat.specs.declared.saving.Saved.{Saved}
@@ -21,11 +22,6 @@ abbrev pub Saves : Base → Transcript → Saved → List ℕ → List ℕ → T
 Saves b t saved old new = seat.Saves b (history b t) saved old new
 
 -- what bytes are loaded as: a world at the beginning of the values that they spell, or nothing
-abbrev pub Loads : List ℕ → Loaded → Type 0
-Loads bytes (loaded.World w) = (b : Base) × IsStream bytes b × Follows b [] w
-Loads bytes (loaded.Bad fault) = IsStreamRefused fault bytes
-
--- a reply of the emulator that was loaded has at most so many bytes of a blob
-abbrev pub HasPiece : ℕ → Loaded → Type 0
-HasPiece piece (loaded.World w) = w.link.desk.piece ≡ piece
-HasPiece piece (loaded.Bad fault) = Unit {0}
+abbrev pub Loads : ℕ → List ℕ → Loaded → Type 0
+Loads piece bytes (loaded.World w) = (b : Base) × IsStream bytes b × FollowsBoth b piece (first_hosts b) w
+Loads piece bytes (loaded.Bad fault) = IsStreamRefused fault bytes

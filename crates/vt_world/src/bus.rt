@@ -46,18 +46,26 @@ fn write_at(seat: &mut Seat<PlainPort>, a: &Access)
 }
 
 impl Bus for World {
-    ghost use Rattle.vt_world.specs.Bus.{IsReady, Leads};
+    ghost use Rattle.vt_world.specs.Worlds.{IsWorldReady, WorldLeads};
 
-    ghost ready = { IsReady };
+    ghost ready = { IsWorldReady };
 
-    ghost step = { Leads };
+    ghost step = { WorldLeads };
 
     fn read(&mut self, a: &Access) -> u64 {
-        read_at(&mut self.a, a)
+        if self.a.is_running() {
+            read_at(&mut self.a, a)
+        } else {
+            read_at(&mut self.b, a)
+        }
     }
 
     fn write(&mut self, a: &Access) {
-        write_at(&mut self.a, a);
+        if self.a.is_running() {
+            write_at(&mut self.a, a);
+        } else {
+            write_at(&mut self.b, a);
+        }
     }
 }
 

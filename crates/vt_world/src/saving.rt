@@ -1,10 +1,12 @@
 //! A world is saved, and made again from what was saved.
-ghost use Rattle.std.specs.Prelude.{◌≤◌, ◌≡◌, OnErr, IfOk};
+ghost use Rattle.std.specs.Prelude.{◌≤◌, ◌≡◌, true, OnErr, IfOk};
 ghost use Rattle.crb_history.specs.Base.{Base};
 ghost use Rattle.crb_history.specs.Replies.{Transcript};
+ghost use Rattle.move_core.specs.Sides.{is_running};
 ghost use Rattle.saved_stream.specs.Walks.{wanted_after};
 ghost use Rattle.vt_seat.specs.Follows.{Follows};
-ghost use Rattle.vt_world.specs.Saving.{CanSave, Saves, Loads, HasPiece};
+ghost use Rattle.vt_seat.specs.Seats.{world_of};
+ghost use Rattle.vt_world.specs.Saving.{CanSave, Saves, Loads};
 
 use crate::world::World;
 use move_codec::HostName;
@@ -31,15 +33,16 @@ impl World {
         saved_stream::wanted(begin)
     }
 
-    /// Appends the saved stream of this host: the record of its device and the blobs of its TPM. A command that was started
-    /// and that nobody has claimed is saved with the device. The world goes on as before. For want of memory nothing is
-    /// appended.
+    /// Appends the saved stream of host A: the record of its device and the blobs of its TPM. A command that was started and
+    /// that nobody has claimed is saved with the device. The world goes on as before. For want of memory nothing is appended.
     ///
-    /// No call on its wires may be ordered to fail, and its device may not be lost.
+    /// The guest runs at A. No call on its wires may be ordered to fail, and its device may not be lost.
     pub fn save(&mut self, alloc: Global, into: &mut Vec<u8>) -> Result<Saved, AllocError>
-        requires { (b : Base) × (t : Transcript) × CanSave b t self.old }
-        ensures saves { IfOk result (λ saved. (b : Base) (t : Transcript) → CanSave b t self.old → Saves b t saved into.old.items into.new.items) }
-        ensures goes_on { (b : Base) (t : Transcript) → CanSave b t self.old → Follows b t self.new }
+        requires runs { is_running self.old.a.host.stage ≡ true }
+        requires can_save { (b : Base) × (t : Transcript) × CanSave b t (world_of self.old.a) }
+        ensures saves { IfOk result (λ saved. (b : Base) (t : Transcript) → CanSave b t (world_of self.old.a) → Saves b t saved into.old.items into.new.items) }
+        ensures goes_on { (b : Base) (t : Transcript) → CanSave b t (world_of self.old.a) → Follows b t (world_of self.new.a) }
+        ensures others { (self.new.b ≡ self.old.b) × (self.new.bag ≡ self.old.bag) }
         ensures err { OnErr result (into.new.items ≡ into.old.items) }
     {
         let mut stream = Vec::new(alloc);
@@ -48,16 +51,22 @@ impl World {
         Ok(saved)
     }
 
-    /// The host that a saved stream spells, with a worker that has nothing in hand. Its emulator was given the blobs and then
-    /// switched on; a reply of it has at most `piece` bytes of a blob.
+    /// The world whose host A a saved stream spells, with a worker that has nothing in hand, and whose B is empty. A's emulator
+    /// was given the blobs and then switched on. A piece of a record or of a blob has at most `piece` bytes.
     pub fn load(alloc: Global, bytes: &[u8], piece: u32) -> Result<Loaded, AllocError>
         requires least { 1 ≤ piece }
         requires most { piece ≤ 4096 }
-        ensures loads { IfOk result (Loads bytes.now) }
-        ensures piece { IfOk result (HasPiece piece) }
+        ensures loads { IfOk result (Loads piece bytes.now) }
     {
         match Seat::load(alloc, HostName::A, bytes, piece)? {
-            Ok(a) => Ok(Loaded::World(World { a })),
+            Ok(a) => {
+                let b = Seat::empty(alloc, HostName::B, piece)?;
+                Ok(Loaded::World(World {
+                    a,
+                    b,
+                    bag: Vec::new(alloc),
+                }))
+            }
             Err(fault) => Ok(Loaded::Bad(fault)),
         }
     }

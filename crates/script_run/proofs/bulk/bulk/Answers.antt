@@ -1,10 +1,11 @@
 use Rattle.std.proofs.Common.{◌≡◌, List, length, refl, ap, arith}
 use Rattle.vt_script.specs.declared.drive.DriveLine.{DriveLine}
 use Rattle.bulk_lines.specs.Generator.{bulk_lines}
+use Rattle.script_run.specs.Ends.{HandsPair}
 use Rattle.script_run.specs.Loop.{HasDriven}
 use Rattle.script_run.specs.Run.{latest_first}
 use Rattle.script_run.proofs.Bulks.{length-bulk}
-use Rattle.script_run.proofs.Handing.{all-out, have-driven}
+use Rattle.script_run.proofs.Handing.{all-out, hands-pair}
 use Rattle.script_run.proofs.bulk.bulk.Goals as goal
 
 pub sum_up-summed-requires-clause-few : goal.sum_up-summed-requires-clause-few
@@ -14,4 +15,4 @@ pub returns-clause-hands_out : goal.returns-clause-hands_out
 returns-clause-hands_out g c =
     let all : List DriveLine = latest_first (bulk_lines c.args.seed c.args.count) in
     let driven : HasDriven all c.sum_up-summed.new.pair = rw c.new.ensures.lines at c.in-Ok-summed.ensures.driven in
-    rw (c.on_hosts-2.ensures.status, c.on_hosts-2.ensures.hosts) (all-out (λ lines. lines ≡ all) c.write_and_end-status.result all c.sum_up-summed.new.pair refl (have-driven all c.sum_up-summed.new.pair driven))
+    rw (c.on_hosts-2.ensures.status, c.on_hosts-2.ensures.hosts) (all-out (HandsPair (λ lines. lines ≡ all)) c.write_and_end-status.result _ (hands-pair (λ lines. lines ≡ all) all c.sum_up-summed.new.pair refl driven))

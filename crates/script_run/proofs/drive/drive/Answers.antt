@@ -7,8 +7,8 @@ use Rattle.script_run.proofs.Writing.{wrote-nothing}
 use Rattle.script_run.proofs.Prefixes.{drives-start, driven-more, drives-more, drives-gives, drives-all}
 use Rattle.script_run.proofs.Endings.{leaves-nothing, leaves-all, pends-more, pends-less}
 use Rattle.script_run.proofs.Lines.{drive-ends}
-use Rattle.script_run.specs.Ends.{AreDriveLines}
-use Rattle.script_run.proofs.Handing.{early-out, all-out, ends-early, have-driven, all-lines}
+use Rattle.script_run.specs.Ends.{HandsPair, AreDriveLines}
+use Rattle.script_run.proofs.Handing.{early-out, all-out, ends-early, hands-pair, all-lines}
 use Rattle.script_run.proofs.Placing.{can-respond}
 use Rattle.script_run.proofs.drive.drive.Goals as goal
 
@@ -36,7 +36,7 @@ pub returns-in-Some-end-clause-hands_out : goal.returns-in-Some-end-clause-hands
 returns-in-Some-end-clause-hands_out g c =
     let done = c.loop-text.invariant.done in
     let early = ends-early _ _ _ _ c.in-Some-end.status _ _ (c.in-Some-end.ensures.ends done.1.driven.history (placed done.0) done.1.driven.waits) in
-    rw (c.on_hosts.ensures.status, c.on_hosts.ensures.hosts) (early-out (AreDriveLines c.args.script.now) c.in-Some-end.status _ early)
+    rw (c.on_hosts.ensures.status, c.on_hosts.ensures.hosts) (early-out (HandsPair (AreDriveLines c.args.script.now)) c.in-Some-end.status _ early)
 
 pub loop-text-preserved : goal.loop-text-preserved
 loop-text-preserved g c =
@@ -65,4 +65,4 @@ returns-clause-hands_out g c =
     let done = c.loop-text.invariant.done in
     let all = all-lines c.args.script.now c.loop-text.lines.rest done.0 c.loop-text.pair done.1 c.in_default-next.ensures.end in
     rw (c.on_hosts-2.ensures.status, c.on_hosts-2.ensures.hosts)
-    (all-out (AreDriveLines c.args.script.now) c.write_and_end-status.result done.0 c.loop-text.pair all (have-driven done.0 c.loop-text.pair done.1.driven))
+    (all-out (HandsPair (AreDriveLines c.args.script.now)) c.write_and_end-status.result _ (hands-pair (AreDriveLines c.args.script.now) done.0 c.loop-text.pair all done.1.driven))

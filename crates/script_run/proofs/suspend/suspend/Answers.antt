@@ -4,7 +4,7 @@ use Rattle.crb_history.specs.OneHost.{one_told}
 use Rattle.script_run.specs.Saved.{suspended}
 use Rattle.script_run.specs.Start.{start}
 use Rattle.script_run.proofs.Endings.{leaves-nothing, leaves-bad, nothing-written}
-use Rattle.script_run.proofs.Suspending.{suspends-start, suspends-more, suspends-gives, suspends-bad, can_save, suspends-saved}
+use Rattle.script_run.proofs.Suspending.{suspends-start, suspends-more, suspends-gives, suspends-bad, can_save, runs_at_a, suspends-saved}
 use Rattle.script_run.proofs.suspend.suspend.Goals as goal
 
 pub returns-in_default : goal.returns-in_default
@@ -22,7 +22,7 @@ returns-in_default-plain_line g c = record {
       let done = c.loop-text.invariant.done in
       leaves-bad (suspended c.args.script.now) _ _ _ (length done.0) [] [] c.requires (suspends-gives c.args.script.now c.loop-text.lines.rest done.0 done.1 c.loop-text.world done.2)
       (nothing-written _ _ (rw c.loop-text.invariant.untouched refl)) _ c.bad_line.result
-      (suspends-bad c.args.script.now c.loop-text.lines.rest done.0 done.1 c.loop-text.world c.in-Some.text.now c.next.new.self.rest done.2 c.in-Some.ensures.line (sym c.plain_line.ensures ∙ c.in_default-plain_line.is))
+      (suspends-bad c.args.script.now c.loop-text.lines.rest done.0 done.1 c.loop-text.world c.in-Some.text.now c.next.new.self.rest done.2 c.in-Some.ensures.line (sym c.plain_line.ensures.line ∙ c.in_default-plain_line.is))
       (omega (arith, done.3, c.in-Some.ensures.number)) c.bad_line.ensures.tells;
 }
 
@@ -32,9 +32,23 @@ loop-text-preserved g c =
     record {
       done = (
         c.in-Some-plain_line.line ∷ done.0,
-        exchange c.in-Some-plain_line.line c.step.result ∷ done.1,
-        suspends-more c.args.script.now c.loop-text.lines.rest done.0 done.1 c.loop-text.world c.step.new.self c.in-Some.text.now c.next.new.self.rest c.in-Some-plain_line.line c.step.result done.2
-            c.in-Some.ensures.line (sym c.plain_line.ensures ∙ c.in-Some-plain_line.is) (c.step.ensures.steps start (one_told start done.1) done.2.follows),
+        exchange c.in-Some-plain_line.line c.guest.result ∷ done.1,
+        suspends-more c.args.script.now c.loop-text.lines.rest done.0 done.1 c.loop-text.world c.guest.new.self c.in-Some.text.now c.next.new.self.rest c.in-Some-plain_line.line c.guest.result done.2
+            c.in-Some.ensures.line (sym c.plain_line.ensures.line ∙ c.in-Some-plain_line.is) (c.guest.ensures.at_a done.2.here start (one_told start done.1) done.2.follows) c.guest.ensures.others.running,
+        omega (arith, done.3, c.in-Some.ensures.number),
+      );
+      untouched = c.loop-text.invariant.untouched;
+    }
+
+pub loop-text-preserved-in-Some-plain_line : goal.loop-text-preserved-in-Some-plain_line
+loop-text-preserved-in-Some-plain_line g c =
+    let done = c.loop-text.invariant.done in
+    record {
+      done = (
+        c.in-Some-plain_line.line ∷ done.0,
+        exchange c.in-Some-plain_line.line c.guest.result ∷ done.1,
+        suspends-more c.args.script.now c.loop-text.lines.rest done.0 done.1 c.loop-text.world c.guest.new.self c.in-Some.text.now c.next.new.self.rest c.in-Some-plain_line.line c.guest.result done.2
+            c.in-Some.ensures.line (sym c.plain_line.ensures.line ∙ c.in-Some-plain_line.is) (c.guest.ensures.at_a done.2.here start (one_told start done.1) done.2.follows) c.guest.ensures.others.running,
         omega (arith, done.3, c.in-Some.ensures.number),
       );
       untouched = c.loop-text.invariant.untouched;
@@ -44,7 +58,10 @@ pub save-status-requires : goal.save-status-requires
 save-status-requires g c =
     let done = c.loop-text.invariant.done in
     let laws = c.plain_runs_are_one.ensures in
-    (start, done.1, can_save c.args.script.now c.loop-text.lines.rest done.0 done.1 c.loop-text.world done.2 laws.run laws.unordered laws.working)
+    record {
+      runs = runs_at_a c.loop-text.world done.2.here;
+      can_save = (start, done.1, can_save c.args.script.now c.loop-text.lines.rest done.0 done.1 c.loop-text.world done.2 laws.run laws.unordered laws.working);
+    }
 
 pub returns : goal.returns
 returns g c = record {

@@ -1,0 +1,80 @@
+-- Two seats at their beginning: A runs, and B is empty.
+use Rattle.std.proofs.Common.{◌≡◌, ℕ, [], refl, sym, ap, ◌∙◌, arith, Some, lit≤}
+use Rattle.std.specs.Prelude.{slice_get}
+use Rattle.std.proofs.Math.Seq.{take-nil}
+use Rattle.vt_base.specs.Buffer.{zeros}
+use Rattle.vt_base.specs.Numbers.{IsBytes}
+use Rattle.vt_base.proofs.Zeros.{length-zeros, get_or-zeros}
+use Rattle.crb_port.specs.declared.job.Standing.{Standing}
+use Rattle.crb_machine.specs.Values.{AreFit, fresh_device}
+use Rattle.crb_history.specs.Base.{Base, IsFitBase}
+use Rattle.move_codec.specs.declared.names.HostName.{HostName}
+use Rattle.move_codec.specs.declared.names.HostName.TheVariants.{A, B}
+use Rattle.move_codec.specs.declared.message.Message.{Message}
+use Rattle.two_hosts.specs.Hosts.{first_hosts, host_of, bag_size}
+use Rattle.two_hosts.proofs.InvariantKept.{first_kept}
+use Rattle.vt_seat.specs.Wires.{WiresState}
+use Rattle.vt_seat.specs.Follows.{Follows}
+use Rattle.vt_seat.specs.Seats.{world_of, StartsAs, IsEmptySeat}
+use Rattle.vt_seat.specs.State.{SeatState}
+use Rattle.two_seats.specs.Seats.{IsSeat}
+use Rattle.two_seats.specs.Both.{TwoSeats, FollowsBoth, seat_of}
+
+IsBytes-zeros : (n : ℕ) → IsBytes (zeros n)
+IsBytes-zeros n i = let none = get_or-zeros n i in omega (arith, none)
+
+pub fresh_fit : AreFit fresh_device
+fresh_fit = record {
+  working = refl;
+  idle = λ is. refl;
+  waits = λ is. absurd cc;
+  size = length-zeros 3968;
+  bytes = IsBytes-zeros 3968;
+  number = lit≤ tt;
+}
+
+-- the host that runs
+runs_first : (b : Base) (piece : ℕ) (s : SeatState Standing) → Follows b [] (world_of s) → StartsAs A piece s → IsSeat b piece [] (first_hosts b).offered A (first_hosts b).a s
+runs_first b piece s follows starts = record {
+  name_is = starts.name_is;
+  piece_is = starts.record_piece;
+  pieces = starts.blob_piece;
+  stage_is = starts.runs;
+  top_is = starts.top;
+  due = follows.due;
+  stands = follows.stands;
+}
+
+-- the host without a guest
+empty_first : (b : Base) (piece : ℕ) (s : SeatState Standing) → IsEmptySeat B piece s → IsSeat b piece [] (first_hosts b).offered B (first_hosts b).b s
+empty_first b piece s empty = record {
+  name_is = empty.name_is;
+  piece_is = empty.record_piece;
+  pieces = ap (λ (w : WiresState). w.link.desk.piece) empty.wires;
+  stage_is = empty.rests;
+  top_is = empty.top;
+  due = ap (λ (w : WiresState). w.due) empty.wires;
+  stands = record {
+    free = empty.free;
+    quiet = record { nothing = ap (λ (w : WiresState). w.link.control) empty.wires; listens = ap (λ (w : WiresState). w.link.desk.closed) empty.wires };
+    lane = ap (λ (w : WiresState). w.link.commands) empty.wires;
+    none = ap (λ (w : WiresState). w.link.desk.held) empty.wires;
+  };
+}
+
+pub both_first : (b : Base) (piece : ℕ) (w : TwoSeats) → IsFitBase b → Follows b [] (world_of w.a) → StartsAs A piece w.a → IsEmptySeat B piece w.b → w.bag ≡ [] → FollowsBoth b piece (first_hosts b) w
+both_first b piece w fit follows starts empty bag_is = record {
+  fit = follows.fit;
+  invariant = first_kept b;
+  fits = λ e. fit;
+  seats = seated;
+  some = λ m sent. absurd (nothing m sent.0 sent.1);
+  bag_is = bag_is ∙ sym (take-nil bag_size);
+}
+  where
+    nothing : (m : Message) (k : ℕ) → slice_get [] k ≡ Some m → ⊥
+    nothing m k is = absurd cc
+
+    seated : (n : HostName) → IsSeat b piece [] (first_hosts b).offered n (host_of (first_hosts b) n) (seat_of w n)
+    seated A = runs_first b piece w.a follows starts
+    seated B = empty_first b piece w.b empty

@@ -1,0 +1,140 @@
+-- Which lines count a fault of the wires, and of which host.
+use Rattle.std.proofs.Common.{◌≡◌, ℕ, Bool, true, false, refl, sym, ap, subst, ◌∙◌, Some, None, Ok, Err}
+use Rattle.std.specs.Prelude.{Option, Result}
+use Rattle.crb_history.specs.Base.{Base}
+use Rattle.crb_history.specs.Plain.{is_plain}
+use Rattle.crb_history.specs.Replies.{is_fault}
+use Rattle.crb_port.specs.declared.job.Standing.{Standing}
+use Rattle.ctrl_client.specs.declared.fault.ClientFault.{ClientFault}
+use Rattle.ctrl_client.specs.declared.fault.ClientFault.TheVariants.{Link as LinkFault}
+use Rattle.move_codec.specs.declared.names.HostName.{HostName}
+use Rattle.move_codec.specs.declared.names.HostName.TheVariants.{A, B}
+use Rattle.move_codec.specs.declared.names.Reason.{Reason}
+use Rattle.move_codec.specs.declared.names.Reason.TheVariants as reason
+use Rattle.move_codec.specs.declared.message.Message.{Message}
+use Rattle.move_codec.specs.declared.message.Body.{Body}
+use Rattle.move_codec.specs.declared.message.Body.TheVariants as body
+use Rattle.move_core.specs.declared.answers.Delivered.{Delivered}
+use Rattle.move_core.specs.declared.answers.Delivered.TheVariants as delivers
+use Rattle.move_core.specs.declared.answers.OfferFault.{OfferFault}
+use Rattle.move_core.specs.declared.answers.OfferFault.TheVariants as fault
+use Rattle.move_core.specs.Counts.{CountsIf, delivered_by_link, offered_by_link, is_link_refusal, is_link_reason}
+use Rattle.move_core.specs.Sides.{other}
+use Rattle.vt_script.specs.declared.event.Event.{Event}
+use Rattle.vt_script.specs.declared.event.Event.TheVariants as event
+use Rattle.vt_script.specs.declared.event.Event.TheVariants.{Offer, Deliver}
+use Rattle.vt_script.specs.declared.reply.Reply.{Reply}
+use Rattle.vt_script.specs.declared.reply.Reply.TheVariants as reply
+use Rattle.two_hosts.specs.Hosts.{TwoHosts, running_host, message_at}
+use Rattle.two_hosts.specs.Replies.{reason_in}
+use Rattle.vt_seat.specs.Follows.{CountsFault, CountsBy}
+use Rattle.vt_seat.specs.State.{SeatState}
+use Rattle.two_seats.specs.Both.{TwoSeats, FollowsBoth, running_of, with_seat, seat_of, receiver_of, acts_on, CountsOn, CountsBoth, said_offer, said_delivery}
+use Rattle.two_seats.proofs.Seating.{running-same}
+
+-- the line acts on this host
+pub counts_at : (t : TwoHosts) (line : Event) (n : HostName) (r : Reply) (old new : TwoSeats) → acts_on t line ≡ Some n → CountsFault r (seat_of old n).faults (seat_of new n).faults
+    → (seat_of new (other n)).faults ≡ (seat_of old (other n)).faults → CountsBoth t line r old new
+counts_at t line n r old new acts here there = subst (λ (o : Option HostName). CountsOn o r old new) (sym acts) (here, there)
+
+-- it acts on none
+pub counts_none : (t : TwoHosts) (line : Event) (r : Reply) (old new : TwoSeats) → acts_on t line ≡ None → is_fault r ≡ false → new.a.faults ≡ old.a.faults → new.b.faults ≡ old.b.faults → CountsBoth t line r old new
+counts_none t line r old new acts fine a b = subst (λ (o : Option HostName). CountsOn o r old new) (sym acts) (fine, a, b)
+
+-- ---- offers
+
+-- the only fault of a client in an answer is one of the wires
+abbrev pub IsByLink : Result Message OfferFault → Type 0
+IsByLink (Err (fault.Wires f)) = f ≡ LinkFault
+IsByLink _ = Unit {0}
+
+pub offer_counts : (answer : Result Message OfferFault) (number before now : ℕ) → IsByLink answer → CountsIf (offered_by_link answer) before now → CountsFault (said_offer answer number) before now
+offer_counts (Ok m) number before now by counts = counts
+offer_counts (Err fault.Stopped) number before now by counts = counts
+offer_counts (Err fault.Device) number before now by counts = counts
+offer_counts (Err (fault.NotYet k)) number before now by counts = counts
+offer_counts (Err fault.EpochEnd) number before now by counts = counts
+offer_counts (Err (fault.Wires f)) number before now by counts = subst (λ (g : ClientFault). CountsIf (offered_by_link (Err (fault.Wires g))) before now) by counts
+
+-- ---- deliveries
+
+abbrev pub IsSentByLink : Delivered → Type 0
+IsSentByLink (delivers.Wires f) = f ≡ LinkFault
+IsSentByLink _ = Unit {0}
+
+reason_fault : (why : Reason) (number : ℕ) → is_fault (reply.RefusedSent why number) ≡ is_link_reason why
+reason_fault reason.Busy number = refl
+reason_fault reason.Totals number = refl
+reason_fault reason.Record number = refl
+reason_fault reason.Blob number = refl
+reason_fault reason.Link number = refl
+reason_fault reason.Reply number = refl
+
+refusal_fault : (q : Body) (number : ℕ) → is_fault (reply.RefusedSent (reason_in q) number) ≡ is_link_refusal q
+refusal_fault (body.Offer totals) number = refl
+refusal_fault (body.Need part offset) number = refl
+refusal_fault (body.Piece part offset bytes) number = refl
+refusal_fault body.Prepared number = refl
+refusal_fault body.Commit number = refl
+refusal_fault body.Abort number = refl
+refusal_fault (body.Refuse why value) number = reason_fault why number
+
+counts_same : (c d : Bool) (before now : ℕ) → d ≡ c → CountsIf c before now → CountsBy d before now
+counts_same true true before now same counts = counts
+counts_same false false before now same counts = counts
+counts_same true false before now same counts = absurd cc
+counts_same false true before now same counts = absurd cc
+
+pub delivery_counts : (answer : Delivered) (number before now : ℕ) → IsSentByLink answer → CountsIf (delivered_by_link answer) before now → CountsFault (said_delivery answer number) before now
+delivery_counts delivers.Ignored number before now by counts = counts
+delivery_counts delivers.Took number before now by counts = counts
+delivery_counts (delivers.Sent m) number before now by counts = counts
+delivery_counts delivers.Runs number before now by counts = counts
+delivery_counts delivers.Resumed number before now by counts = counts
+delivery_counts (delivers.Refused m) number before now by counts = counts_same (is_link_refusal m.body) (is_fault (reply.RefusedSent (reason_in m.body) number)) before now (refusal_fault m.body number) counts
+delivery_counts (delivers.Wires f) number before now by counts = subst (λ (g : ClientFault). CountsIf (delivered_by_link (delivers.Wires g)) before now) by counts
+
+-- ---- lines of the guest
+
+acts_plain : (t : TwoHosts) (line : Event) → is_plain line ≡ true → acts_on t line ≡ running_host t
+acts_plain t (event.Access a) is = refl
+acts_plain t event.Work is = refl
+acts_plain t event.Ask is = refl
+acts_plain t event.Reset is = refl
+acts_plain t event.Offer is = cc
+acts_plain t (event.Deliver k) is = cc
+acts_plain t event.GiveUp is = cc
+acts_plain t event.Again is = cc
+acts_plain t (event.Show k) is = cc
+acts_plain t (event.Fail host call) is = cc
+
+-- the host that runs acted, and counted its fault
+pub guest_counts : (b : Base) (piece : ℕ) (t : TwoHosts) (w : TwoSeats) (n : HostName) (line : Event) (r : Reply) (new : SeatState Standing) → is_plain line ≡ true → FollowsBoth b piece t w → running_of w ≡ Some n
+    → CountsFault r (seat_of w n).faults new.faults → CountsBoth t line r w (with_seat w n new)
+guest_counts b piece t w n line r new is f runs counts =
+    counts_at t line n r w (with_seat w n new) (acts_plain t line is ∙ sym (running-same b piece t w f) ∙ runs) (here n counts) (there n)
+  where
+    here : (n : HostName) → CountsFault r (seat_of w n).faults new.faults → CountsFault r (seat_of w n).faults (seat_of (with_seat w n new) n).faults
+    here A counts = counts
+    here B counts = counts
+
+    there : (n : HostName) → (seat_of (with_seat w n new) (other n)).faults ≡ (seat_of w (other n)).faults
+    there A = refl
+    there B = refl
+
+pub stopped_counts : (b : Base) (piece : ℕ) (t : TwoHosts) (w new : TwoSeats) (line : Event) → is_plain line ≡ true → FollowsBoth b piece t w → running_of w ≡ None → new.a.faults ≡ w.a.faults → new.b.faults ≡ w.b.faults → CountsBoth t line reply.Stopped w new
+stopped_counts b piece t w new line is f none a b' = counts_none t line reply.Stopped w new (acts_plain t line is ∙ sym (running-same b piece t w f) ∙ none) refl a b'
+
+-- ---- lines about messages
+
+-- an offer of this host counted what its answer says
+pub offer_counted : (b : Base) (piece : ℕ) (t : TwoHosts) (w new : TwoSeats) (n : HostName) (answer : Result Message OfferFault) (number : ℕ) (r : Reply) → FollowsBoth b piece t w → running_of w ≡ Some n → r ≡ said_offer answer number → IsByLink answer
+    → CountsIf (offered_by_link answer) (seat_of w n).faults (seat_of new n).faults → (seat_of new (other n)).faults ≡ (seat_of w (other n)).faults → CountsBoth t Offer r w new
+offer_counted b piece t w new n answer number r f runs is by counts same =
+    counts_at t Offer n r w new (sym (running-same b piece t w f) ∙ runs) (subst (λ (q : Reply). CountsFault q (seat_of w n).faults (seat_of new n).faults) (sym is) (offer_counts answer number (seat_of w n).faults (seat_of new n).faults by counts)) same
+
+-- a delivery to this host
+pub delivery_counted : (t : TwoHosts) (w new : TwoSeats) (n : HostName) (k : ℕ) (m : Message) (answer : Delivered) (number : ℕ) (r : Reply) → message_at t.sent k ≡ Some m → m.to ≡ n → r ≡ said_delivery answer number → IsSentByLink answer
+    → CountsIf (delivered_by_link answer) (seat_of w n).faults (seat_of new n).faults → (seat_of new (other n)).faults ≡ (seat_of w (other n)).faults → CountsBoth t (Deliver k) r w new
+delivery_counted t w new n k m answer number r found to is by counts same =
+    counts_at t (Deliver k) n r w new (ap receiver_of found ∙ ap Some to) (subst (λ (q : Reply). CountsFault q (seat_of w n).faults (seat_of new n).faults) (sym is) (delivery_counts answer number (seat_of w n).faults (seat_of new n).faults by counts)) same

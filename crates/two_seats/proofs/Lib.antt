@@ -1,0 +1,15 @@
+pub mod Seating
+pub mod Lines
+pub mod Exact
+pub mod Offers
+pub mod Offering
+pub mod Delivering
+pub mod Puts
+pub mod Piecing
+pub mod Bounds
+pub mod Deliveries
+pub mod Beginning
+pub mod Running
+pub mod Still
+pub mod Counting
+pub mod Arriving

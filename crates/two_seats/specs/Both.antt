@@ -1,0 +1,155 @@
+-- Two seats and the messages between them, where lines and their replies lead. (Own definitions.)
+use Rattle.std.specs.Prelude.{◌≡◌, ◌++◌, ◌∷◌, [], ℕ, false, List, take, length, nat_lt, ◌+◌, Option, Some, None, Result, Ok, Err, if◌then◌else◌}
+use Rattle.tpm_core.specs.Steps.{IsFit}
+use Rattle.crb_port.specs.declared.job.Standing.{Standing}
+use Rattle.crb_history.specs.Base.{Base, IsFitBase}
+use Rattle.crb_history.specs.Legal.{Legal}
+use Rattle.crb_history.specs.OneHost.{OneHost}
+use Rattle.crb_history.specs.Replies.{Transcript, is_fault}
+use Rattle.move_codec.specs.declared.names.HostName.{HostName}
+use Rattle.move_codec.specs.declared.names.HostName.TheVariants.{A, B}
+use Rattle.move_codec.specs.declared.message.Message.{Message}
+use Rattle.move_codec.specs.Spelling.{HasPiece}
+use Rattle.move_core.specs.Model.{HostModel}
+use Rattle.move_core.specs.Sides.{is_running, other}
+use Rattle.move_core.specs.declared.answers.OfferFault.{OfferFault}
+use Rattle.move_core.specs.declared.answers.OfferFault.TheVariants as fault
+use Rattle.move_core.specs.declared.answers.Delivered.{Delivered}
+use Rattle.move_core.specs.declared.answers.Delivered.TheVariants as delivers
+use Rattle.vt_script.specs.declared.event.Event.{Event}
+use Rattle.vt_script.specs.declared.event.Event.TheVariants.{Access, Work, Ask, Reset, Offer, Deliver, GiveUp, Again, Show, Fail}
+use Rattle.vt_script.specs.declared.reply.Reply.{Reply}
+use Rattle.vt_script.specs.declared.reply.Reply.TheVariants as reply
+use Rattle.two_hosts.specs.Deliveries.{Outcome}
+use Rattle.two_hosts.specs.Hosts.{TwoHosts, pick, host_of, running_host, message_at, after_line, hosts_after, bag_size}
+use Rattle.two_hosts.specs.Replies.{AnswersLine, IsRun, reason_in}
+use Rattle.two_hosts.specs.Invariant.{HostsInvariant, IsSent}
+use Rattle.vt_seat.specs.Follows.{CountsFault}
+use Rattle.vt_seat.specs.State.{SeatState}
+use Rattle.two_seats.specs.Seats.{IsSeat}
+
+-- the seats of A and B, and the messages that were sent, the first one first
+pub record TwoSeats : Type 0 where
+  pub a : SeatState Standing
+  pub b : SeatState Standing
+  pub bag : List Message
+
+abbrev pub seat_of : TwoSeats → HostName → SeatState Standing
+seat_of w n = pick n w.a w.b
+
+abbrev pub with_seat : TwoSeats → HostName → SeatState Standing → TwoSeats
+with_seat w n s = record w { a = pick n s w.a; b = pick n w.b s }
+
+-- the host whose guest runs
+abbrev pub running_of : TwoSeats → Option HostName
+running_of w = if is_running w.a.host.stage then Some A else (if is_running w.b.host.stage then Some B else None)
+
+-- what is known of one of the hosts
+abbrev pub one_of : TwoHosts → HostName → OneHost
+one_of t n = record { history = t.history; order = (host_of t n).injected_fault; count = (host_of t n).calls }
+
+-- The seats and the bag are where this is known of the hosts. A piece of a record or of a blob has at most `piece` bytes.
+pub record FollowsBoth (b : Base) (piece : ℕ) (t : TwoHosts) (w : TwoSeats) : Type 0 where
+  pub fit : IsFit b.tpm
+  pub invariant : HostsInvariant b t
+  pub fits : (e : ℕ) → IsFitBase (t.offered e)
+  pub seats : (n : HostName) → IsSeat b piece t.history t.offered n (host_of t n) (seat_of w n)
+  pub some : (m : Message) → IsSent t.sent m → HasPiece m.body
+  pub bag_is : w.bag ≡ take bag_size t.sent
+
+-- one line and its reply lead on
+pub record StepsBoth (b : Base) (piece : ℕ) (t : TwoHosts) (line : Event) (reply : Reply) (new : TwoSeats) : Type 0 where
+  pub answers : AnswersLine b piece t line reply
+  pub legal : Legal b t.history → Legal b (after_line b piece t line reply).history
+  pub follows : FollowsBoth b piece (after_line b piece t line reply) new
+
+-- ---- the two tables of deliveries
+
+-- a host that took a message is what this says of its side, and its answer too
+pub record IsOutcome (o : Outcome) (answer : Delivered) (host : HostModel Standing) : Type 0 where
+  pub answer_is : answer ≡ o.answer
+  pub stage_is : host.stage ≡ o.side.stage
+  pub top_is : host.top ≡ o.side.top
+
+-- ---- faults of the wires
+
+-- the host that a message names
+abbrev pub receiver_of : Option Message → Option HostName
+receiver_of None = None
+receiver_of (Some m) = Some m.to
+
+-- the host whose wires a line may use
+abbrev pub acts_on : TwoHosts → Event → Option HostName
+acts_on t (Access access) = running_host t
+acts_on t Work = running_host t
+acts_on t Ask = running_host t
+acts_on t Reset = running_host t
+acts_on t Offer = running_host t
+acts_on t (Deliver k) = receiver_of (message_at t.sent k)
+acts_on t GiveUp = None
+acts_on t Again = None
+acts_on t (Show k) = None
+acts_on t (Fail host call) = None
+
+-- a reply that names a fault comes with one more fault of the wires of this host, and any other reply with none
+abbrev pub CountsOn : Option HostName → Reply → TwoSeats → TwoSeats → Type 0
+CountsOn None r old new = (is_fault r ≡ false) × (new.a.faults ≡ old.a.faults) × (new.b.faults ≡ old.b.faults)
+CountsOn (Some n) r old new = CountsFault r (seat_of old n).faults (seat_of new n).faults × ((seat_of new (other n)).faults ≡ (seat_of old (other n)).faults)
+
+abbrev pub CountsBoth : TwoHosts → Event → Reply → TwoSeats → TwoSeats → Type 0
+CountsBoth t line r old new = CountsOn (acts_on t line) r old new
+
+-- ---- runs
+
+-- these lines and replies are a run that leads here
+pub record RunsTo (b : Base) (piece : ℕ) (t : Transcript) (w : TwoSeats) : Type 0 where
+  pub run : IsRun b piece t
+  pub follows : FollowsBoth b piece (hosts_after b piece t) w
+
+-- ---- the bag
+
+-- a message went into a bag of so many, or was lost where it was full, and got this number
+pub record KeepsIn (most : ℕ) (m : Message) (number : ℕ) (sent new : List Message) : Type 0 where
+  pub number_is : number ≡ (if nat_lt (length sent) most then length sent + 1 else 0)
+  pub bag_is : new ≡ take most (sent ++ m ∷ [])
+
+abbrev pub Keeps : Message → ℕ → List Message → List Message → Type 0
+Keeps m number sent new = KeepsIn bag_size m number sent new
+
+-- ---- the replies of a host that offers, and of one that takes a message
+
+-- the reply for what an offer came to, with the number of its message
+abbrev pub said_offer : Result Message OfferFault → ℕ → Reply
+said_offer (Ok m) number = reply.Offered m.epoch number
+said_offer (Err fault.Stopped) number = reply.Stopped
+said_offer (Err fault.Device) number = reply.FailedDevice
+said_offer (Err (fault.NotYet k)) number = reply.NotYet
+said_offer (Err fault.EpochEnd) number = reply.EpochEnd
+said_offer (Err (fault.Wires f)) number = reply.Link
+
+-- the bag after it
+abbrev pub bag_offer : Result Message OfferFault → List Message → List Message → List Message
+bag_offer (Ok m) new old = new
+bag_offer (Err f) new old = old
+
+-- the reply for what a delivery came to, with the number of the message that is sent
+abbrev pub said_delivery : Delivered → ℕ → Reply
+said_delivery delivers.Ignored number = reply.Ignored
+said_delivery delivers.Took number = reply.Took
+said_delivery (delivers.Sent m) number = reply.SentMessage number
+said_delivery delivers.Runs number = reply.Running
+said_delivery delivers.Resumed number = reply.Resumed
+said_delivery (delivers.Refused m) number = reply.RefusedSent (reason_in m.body) number
+said_delivery (delivers.Wires f) number = reply.Link
+
+-- the bag after it
+abbrev pub bag_delivery : Delivered → List Message → List Message → List Message
+bag_delivery (delivers.Sent m) new old = new
+bag_delivery (delivers.Refused m) new old = new
+bag_delivery _ new old = old
+
+-- the message of an answer went into a bag of so many
+abbrev pub KeepsAllIn : ℕ → Delivered → ℕ → List Message → List Message → Type 0
+KeepsAllIn most (delivers.Sent m) number sent new = KeepsIn most m number sent new
+KeepsAllIn most (delivers.Refused m) number sent new = KeepsIn most m number sent new
+KeepsAllIn most _ number sent new = Unit {0}

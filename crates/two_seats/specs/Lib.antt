@@ -1,0 +1,3 @@
+pub mod Seats
+pub mod Both
+pub mod Moves
