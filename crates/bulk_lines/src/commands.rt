@@ -7,7 +7,7 @@ ghost use Rattle.bulk_lines.specs.Commands.{header, startup, get_random, selecti
 
 use std::alloc::{AllocError, Global};
 use tpm_frame::{GET_RANDOM, NO_SESSIONS, PCR_EXTEND, PCR_READ, SESSIONS, STARTUP};
-use vt_base::{Bytes, Held};
+use vt_base::{ByteBuf, Bytes};
 use vt_script::DriveLine;
 
 /// TPM_SU_CLEAR.
@@ -37,7 +37,7 @@ const SELECTION_SIZE: u8 = 3;
 /// The authorisations of an extend: their size, TPM_RS_PW, no nonce, continueSession, and the empty password.
 const EMPTY_PASSWORD: [u8; 13] = [0, 0, 0, 9, 0x40, 0, 0, 9, 0, 0, 1, 0, 0];
 
-type Text = Held<65>;
+type Text = ByteBuf<65>;
 
 fn header(tag: u16, size: u32, code: u32) -> Text
     ensures { result ≡ header tag size code }

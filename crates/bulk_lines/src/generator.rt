@@ -71,7 +71,7 @@ impl BulkLines {
         }
     }
 
-    /// The next line, or `None` where no line is left. An `Err` is want of memory, which leaves the lines as they were.
+    /// The next line, or `None` where no line is left. An `Err` is lack of memory, which leaves the lines as they were.
     pub fn next(&mut self, alloc: Global) -> Result<Option<DriveLine>, AllocError>
         ensures line { IfOk result (λ found. MatchOption found (self.old ≡ []) (λ line. self.old ≡ line ∷ self.new)) }
         ensures end { IfOk result (λ found. IfNone found (self.new ≡ [])) }

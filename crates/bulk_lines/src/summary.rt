@@ -44,7 +44,7 @@ impl Summary {
     }
 
     /// Appends the text of the summary: the two counts in decimal, and the digest by SHA-256 in lower-case hexadecimal, ended
-    /// by LF. An `Err` is want of memory.
+    /// by LF. An `Err` is lack of memory.
     pub fn print(self, alloc: Global, into: &mut Vec<u8>) -> Result<(), AllocError>
         ensures ok { (commands moves : ℕ) (output : List ℕ) → IsSummaryOf self commands moves output
             → OnOk result (into.new.items ≡ into.old.items ++ summary_text commands moves output) }

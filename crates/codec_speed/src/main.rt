@@ -7,7 +7,7 @@ ghost use Rattle.std.specs.Prelude.{◌<◌};
 use ctrl_codec::{FedRequest, RequestReader};
 use std::alloc::{AllocError, Global};
 use std::process::ExitCode;
-use vt_base::Held;
+use vt_base::ByteBuf;
 
 /// How many bytes of data a request has here.
 const DATA: usize = 4096;
@@ -66,7 +66,7 @@ fn read(alloc: Global, carried: &mut Carried, count: u32, size: usize) -> Result
 // Copies the data as often.
 fn copy(carried: &mut Carried, count: u32) {
     let mut data = [0; DATA];
-    let mut held = Held::<DATA>::new();
+    let mut held = ByteBuf::<DATA>::new();
     for i in 0..count {
         data[place_of(i)] = (i % 251) as u8;
         held.clear();

@@ -11,7 +11,7 @@ pub reaches-append : {S : Type 0} (step : Relation S) (old middle new : S) (firs
 reaches-append step old middle new [] then a b = rw a b
 reaches-append step old middle new (e ∷ first) then a b = (a.0, a.1, reaches-append step a.0 middle new first then a.2 b)
 
--- likewise for one access at the front
+-- likewise for one access at the start
 pub reaches-cons : {S : Type 0} (step : Relation S) (old middle new : S) (e : Exchange) (then : List Exchange) → Reaches step old (e ∷ []) middle → Reaches step middle then new → Reaches step old (e ∷ then) new
 reaches-cons step old middle new e then a b = reaches-append step old middle new (e ∷ []) then a b
 

@@ -7,7 +7,7 @@ use Rattle.crb_driver.specs.declared.fault.DriverFault.{DriverFault}
 use Rattle.crb_driver.specs.declared.fault.DriverFault.TheVariants.{Size, NotGranted, NotReady, TimedOut, Fatal, BadResponse}
 use Rattle.crb_driver.specs.Bus.{Exchange, Relation, Reaches}
 use Rattle.crb_driver.specs.Accesses.{start_accesses, poll_accesses}
-use Rattle.crb_driver.specs.Calls.{Starts, Polls, StaysBusy, Ends, RunsThen, TimesOut, Finishes, Answers, FailsToFinish, Fails}
+use Rattle.crb_driver.specs.Calls.{Starts, Polls, StaysBusy, Ends, RunsThen, TimesOut, Finishes, AnswersCall, FailsToFinish, Fails}
 use Rattle.crb_driver.proofs.Reaching.{reaches-append}
 
 module _ {S : Type 0} (step : Relation S) (old begun waited : S) where
@@ -31,7 +31,7 @@ module _ {S : Type 0} (step : Relation S) (old begun waited : S) where
   }
 
   -- the response that was read at the end
-  pub answers : (new : S) (command : List ℕ) (polls : ℕ) (response : List ℕ) → Starts step old command begun → Ends step begun polls waited → Finishes step waited response new → Answers step old command polls response new
+  pub answers : (new : S) (command : List ℕ) (polls : ℕ) (response : List ℕ) → Starts step old command begun → Ends step begun polls waited → Finishes step waited response new → AnswersCall step old command polls response new
   answers new command polls response s w f = record { ctrl_sts = f.ctrl_sts; usable = f.usable; runs = runs_then new command polls _ s w f.reaches }
 
   -- the fault that was found at the end

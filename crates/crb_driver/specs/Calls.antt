@@ -96,7 +96,7 @@ pub record TimesOut {S : Type 0} (step : Relation S) (old : S) (command : List �
   pub reaches : Reaches step old (wait_accesses command seen seen.busy) new
 
 -- the command was run and this response was read
-pub record Answers {S : Type 0} (step : Relation S) (old : S) (command : List ℕ) (polls : ℕ) (response : List ℕ) (new : S) : Type 0 where
+pub record AnswersCall {S : Type 0} (step : Relation S) (old : S) (command : List ℕ) (polls : ℕ) (response : List ℕ) (new : S) : Type 0 where
   pub ctrl_sts : ℕ
   pub usable : IsClear numbers.tpm_sts ctrl_sts
   pub runs : RunsThen step old command polls (finish_accesses ctrl_sts (number (length response)) response) new
@@ -126,6 +126,6 @@ abbrev pub Ends : {S : Type 0} → Relation S → S → ℕ → S → Type 0
 Ends step old polls new = (busy : List ℕ) × All (λ value. value ≢ 0) busy × (length busy < polls) × Reaches step old (poll_accesses (busy ++ 0 ∷ [])) new
 
 -- whether one of so many polls found the end
-abbrev pub Waits : {S : Type 0} → Relation S → S → ℕ → Bool → S → Type 0
-Waits step old polls true new = Ends step old polls new
-Waits step old polls false new = StaysBusy step old polls new
+abbrev pub AwaitsEnd : {S : Type 0} → Relation S → S → ℕ → Bool → S → Type 0
+AwaitsEnd step old polls true new = Ends step old polls new
+AwaitsEnd step old polls false new = StaysBusy step old polls new

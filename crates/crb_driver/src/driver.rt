@@ -4,7 +4,7 @@ ghost use Rattle.crb_driver.specs.Accesses.{collect_accesses, send_accesses};
 ghost use Rattle.crb_driver.specs.Bus.{Reaches};
 ghost use Rattle.crb_driver.specs.Sizes.{IsIllSized, reported};
 ghost use Rattle.tpm_frame.specs.Sizes.{IsLength};
-ghost use Rattle.crb_driver.specs.Calls.{Answers, Fails, FailsToFinish, FailsToStart, Finishes, Polls, Starts, Waits};
+ghost use Rattle.crb_driver.specs.Calls.{AnswersCall, Fails, FailsToFinish, FailsToStart, Finishes, Polls, Starts, AwaitsEnd};
 
 use crate::access::{read_bytes, read_register, read_size, write_bytes, write_register};
 use crate::bus::Bus;
@@ -16,7 +16,7 @@ use crb_regs::{
 };
 use tpm_frame::is_well_sized;
 
-/// A driver of one interface. It keeps nothing: what goes on is told by the bus.
+/// A driver of one interface. It keeps nothing: what goes on is determined by the bus.
 #[derive(Clone, Copy, Debug)]
 pub struct Driver;
 
@@ -86,14 +86,14 @@ impl Driver {
         read_register(bus, CTRL_START) == 0
     }
 
-    /// Reads the response to the front of `into`, makes the interface idle and gives access back. It gives the response's
-    /// length.
+    /// Reads the response to the start of `into`, makes the interface idle and gives access back. It gives the
+    /// response's length.
     pub fn finish<B: Bus>(&mut self, bus: &mut B, into: &mut [u8]) -> Result<usize, DriverFault>
         requires is_ready { B.ready bus.old }
         ensures stays_ready { B.ready bus.new }
         ensures ok { IfOk result (λ n. Finishes B.step bus.old (take n into.new) bus.new) }
         ensures length { IfOk result (λ n. IsLength n × (n ≤ length into.old)) }
-        ensures rest { IfOk result (λ n. drop n into.new ≡ drop n into.old) }
+        ensures rest_unchanged { IfOk result (λ n. drop n into.new ≡ drop n into.old) }
         ensures err { IfErr result (λ fault. FailsToFinish B.step bus.old (length into.old) fault bus.new) }
         ensures untouched { OnErr result (into.new ≡ into.old) }
     {
@@ -115,7 +115,7 @@ impl Driver {
     fn wait<B: Bus>(&mut self, bus: &mut B, polls: u32) -> bool
         requires is_ready { B.ready bus.old }
         ensures stays_ready { B.ready bus.new }
-        ensures waits { Waits B.step bus.old polls result bus.new }
+        ensures waits { AwaitsEnd B.step bus.old polls result bus.new }
     {
         for _ in 0..polls {
             if self.poll(bus) {
@@ -138,9 +138,9 @@ impl Driver {
         requires is_ready { B.ready bus.old }
         ensures stays_ready { B.ready bus.new }
         ensures size { IsErrOf result (DriverFault.Size (reported (length command.now))) ↔ IsIllSized command.now }
-        ensures ok { IfOk result (λ n. Answers B.step bus.old command.now polls (take n into.new) bus.new) }
+        ensures ok { IfOk result (λ n. AnswersCall B.step bus.old command.now polls (take n into.new) bus.new) }
         ensures length { IfOk result (λ n. IsLength n × (n ≤ length into.old)) }
-        ensures rest { IfOk result (λ n. drop n into.new ≡ drop n into.old) }
+        ensures rest_unchanged { IfOk result (λ n. drop n into.new ≡ drop n into.old) }
         ensures err { IfErr result (λ fault. Fails B.step bus.old command.now polls (length into.old) fault bus.new) }
         ensures untouched { OnErr result (into.new ≡ into.old) }
     {

@@ -1,15 +1,15 @@
 -- Bytes that are the same in a range give the same numbers and lists.
 use Rattle.std.proofs.Common.{◌≡◌, ℕ, zero, suc, ◌+◌, ◌<◌, ◌≤◌, List, ◌∷◌, refl, ap, ◌∙◌, arith, drop, drop-cons, add-one}
 use Rattle.std.specs.Prelude.{slice_index, length, take}
-use Rattle.crb_regs.specs.LittleEndian.{number_at}
+use Rattle.crb_regs.specs.LittleEndian.{little_endian_at}
 use Rattle.tpm_frame.specs.Frames.{frame_length_of}
 use Rattle.crb_history.specs.Bytes.{bytes_at, command_in}
 
-pub number_at-same : (f g : ℕ → ℕ) (end : ℕ) → ((i : ℕ) → i < end → f i ≡ g i) → (at size : ℕ) → at + size ≤ end → number_at f at size ≡ number_at g at size
+pub number_at-same : (f g : ℕ → ℕ) (end : ℕ) → ((i : ℕ) → i < end → f i ≡ g i) → (at size : ℕ) → at + size ≤ end → little_endian_at f at size ≡ little_endian_at g at size
 number_at-same f g end same at zero fits = refl
 number_at-same f g end same at (suc size) fits =
     let first : f at ≡ g at = same at (omega arith) in
-    let rest : number_at f (at + 1) size ≡ number_at g (at + 1) size = number_at-same f g end same (at + 1) size (omega arith) in
+    let rest : little_endian_at f (at + 1) size ≡ little_endian_at g (at + 1) size = number_at-same f g end same (at + 1) size (omega arith) in
     cc
 
 pub bytes_at-same : (f g : ℕ → ℕ) (end : ℕ) → ((i : ℕ) → i < end → f i ≡ g i) → (at size : ℕ) → at + size ≤ end → bytes_at f at size ≡ bytes_at g at size
@@ -42,7 +42,7 @@ take-drop-bytes_at xs at (suc size) fits =
 pub take-bytes_at : (xs : List ℕ) (size : ℕ) → size ≤ length xs → take size xs ≡ bytes_at (slice_index xs) 0 size
 take-bytes_at xs size fits = take-drop-bytes_at xs 0 size (omega arith)
 
--- the command in a buffer is its front
+-- the command in a buffer is its start
 pub take-command_in : (xs : List ℕ) → length xs ≡ 3968 → take (frame_length_of xs) xs ≡ command_in (slice_index xs)
 take-command_in xs whole =
     let size : take 4 (drop 2 xs) ≡ bytes_at (slice_index xs) 2 4 = take-drop-bytes_at xs 2 4 (omega arith) in

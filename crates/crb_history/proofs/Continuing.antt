@@ -15,41 +15,41 @@ use Rattle.crb_port.specs.declared.job.Outcome.TheVariants.{Done, Cancelled, Los
 use Rattle.tpm_core.specs.Answers.{Entry, answer}
 use Rattle.tpm_core.specs.Answers.Entry.{Executed, PowerOn}
 use Rattle.crb_history.specs.Bytes.{bytes_at, command_in}
-use Rattle.crb_history.specs.Base.{Base}
+use Rattle.crb_history.specs.Snapshot.{Snapshot}
 use Rattle.crb_history.specs.Event.{Event, History}
 use Rattle.crb_history.specs.Event.Event.{Read, Write, Claim, Sent, Exec, Finish, Ask, Reset, ResetLost}
-use Rattle.crb_history.specs.Device.{Stage, effect_of, phase_of, is_granted, is_cancel, registers_of, number_of, latest_number, started, latest_command, buffer, last_command, executed, stage_of, accepts, starts, byte_after, shows, phase_at_end}
-use Rattle.crb_history.specs.Device.Stage.{Waiting}
-use Rattle.crb_history.specs.Asked.{is_asked, sets_cancel, held_back, asked_in_time, is_sent}
-use Rattle.crb_history.specs.Legal.{Legal, MayCome}
-use Rattle.crb_history.specs.Continued.{base_after, content_after, MaySuspend}
+use Rattle.crb_history.specs.Device.{JobStage, effect_of, phase_of, is_granted, is_cancel, registers_of, number_of, latest_number, started, latest_command, buffer, last_command, executed, stage_of, accepts, starts, byte_after, shown_byte, phase_at_end}
+use Rattle.crb_history.specs.Device.JobStage.{Waiting}
+use Rattle.crb_history.specs.Cancelling.{cancel_requested, sets_cancel, cancelled_before_claim, cancelled_in_emulator, is_sent}
+use Rattle.crb_history.specs.Legal.{Legal, IsEnabled}
+use Rattle.crb_history.specs.Continued.{snapshot_after, content_after, MaySuspend}
 use Rattle.crb_history.proofs.Bytes.{number_at-same, command_in-same}
 use Rattle.crb_history.proofs.Phases.{executing-phase_after}
-use Rattle.crb_history.proofs.Held.{held-asked}
+use Rattle.crb_history.proofs.CancelledBeforeClaim.{held-asked}
 
--- what the TPM went through before doesn't tell two pasts apart
-abbrev pub Joins : Base → List Entry → Base → Type 0
+-- what the TPM went through before doesn't distinguish two pasts
+abbrev pub Joins : Snapshot → List Entry → Snapshot → Type 0
 Joins b sooner c = (later : List Entry) (command : List ℕ) → answer b.tpm (later ++ sooner) command ≡ answer c.tpm later command
 
--- Two histories, each from its own values, that nothing tells apart from now on. The first has a past before the other's.
-pub record Agrees (b : Base) (p : History) (sooner : List Entry) (c : Base) (q : History) : Type 0 where
+-- Two histories, each from its own values, that nothing distinguishes from now on. The first has a past before the other's.
+pub record Agrees (b : Snapshot) (p : History) (sooner : List Entry) (c : Snapshot) (q : History) : Type 0 where
   pub registers : registers_of b p ≡ registers_of c q
   pub number : number_of b p ≡ number_of c q
   pub bytes : (i : ℕ) → i < 3968 → buffer b p i ≡ buffer c q i
   pub command : phase_of b p ≡ Execution → last_command b p ≡ last_command c q
   pub stage : phase_of b p ≡ Execution → stage_of b p ≡ stage_of c q
-  pub asked : phase_of b p ≡ Execution → is_asked c q ≡ true → is_asked b p ≡ true
+  pub asked : phase_of b p ≡ Execution → cancel_requested c q ≡ true → cancel_requested b p ≡ true
   pub past : executed b p ≡ executed c q ++ sooner
-  pub held : phase_of b p ≡ Execution → held_back b p ≡ held_back c q
-  pub in_time : phase_of b p ≡ Execution → asked_in_time b p ≡ asked_in_time c q
+  pub held : phase_of b p ≡ Execution → cancelled_before_claim b p ≡ cancelled_before_claim c q
+  pub in_time : phase_of b p ≡ Execution → cancelled_in_emulator b p ≡ cancelled_in_emulator c q
 
-pub phase_is : (b : Base) (p : History) (c : Base) (q : History) → registers_of b p ≡ registers_of c q → phase_of b p ≡ phase_of c q
+pub phase_is : (b : Snapshot) (p : History) (c : Snapshot) (q : History) → registers_of b p ≡ registers_of c q → phase_of b p ≡ phase_of c q
 phase_is b p c q same = ap (λ (r : Regs). r.phase) same
 
-granted_is : (b : Base) (p : History) (c : Base) (q : History) → registers_of b p ≡ registers_of c q → is_granted b p ≡ is_granted c q
+granted_is : (b : Snapshot) (p : History) (c : Snapshot) (q : History) → registers_of b p ≡ registers_of c q → is_granted b p ≡ is_granted c q
 granted_is b p c q same = ap (λ (r : Regs). r.granted) same
 
-cancel_is : (b : Base) (p : History) (c : Base) (q : History) → registers_of b p ≡ registers_of c q → is_cancel b p ≡ is_cancel c q
+cancel_is : (b : Snapshot) (p : History) (c : Snapshot) (q : History) → registers_of b p ≡ registers_of c q → is_cancel b p ≡ is_cancel c q
 cancel_is b p c q same = ap (λ (r : Regs). r.cancel) same
 
 -- ---- the command that is under way stands in the buffer
@@ -127,7 +127,7 @@ not_idle is = cc
 not_lost : Lost ≡ Execution → ⊥
 not_lost is = cc
 
-pub executing-command : (b : Base) (h : History) → phase_of b h ≡ Execution → last_command b h ≡ command_in (buffer b h)
+pub executing-command : (b : Snapshot) (h : History) → phase_of b h ≡ Execution → last_command b h ≡ command_in (buffer b h)
 executing-command b [] is = go (is_executing b.device.phase) (ap is_executing is)
   where
     go : (test : Bool) → test ≡ true → latest_command (if test then record { number = b.device.number; command = command_in (slice_index b.device.content) } ∷ [] else []) ≡ command_in (slice_index b.device.content)
@@ -158,7 +158,7 @@ slice_index-bytes_at f at (suc n) zero lt = let e : at + 0 ≡ at = omega arith 
 slice_index-bytes_at f at (suc n) (suc i) lt =
     let e : at + suc i ≡ at + 1 + i = omega arith in rw e (slice_index-bytes_at f (at + 1) n i (omega arith))
 
-pub content-byte : (b : Base) (h : History) (i : ℕ) → i < 3968 → slice_index (content_after b h) i ≡ buffer b h i
+pub content-byte : (b : Snapshot) (h : History) (i : ℕ) → i < 3968 → slice_index (content_after b h) i ≡ buffer b h i
 unfolding content_after
 content-byte b h i lt = let e : 0 + i ≡ i = omega arith in slice_index-bytes_at (buffer b h) 0 3968 i lt ∙ ap (buffer b h) e
 
@@ -176,27 +176,27 @@ right_true true y h = h
 right_true false y h = cc
 
 -- a cancel beside the registers counts only once the command was sent
-not_in_time : (b : Base) (h : History) → phase_of b h ≡ Execution → stage_of b h ≡ Waiting → asked_in_time b h ≡ false
+not_in_time : (b : Snapshot) (h : History) → phase_of b h ≡ Execution → stage_of b h ≡ Waiting → cancelled_in_emulator b h ≡ false
 not_in_time b [] is waits = refl
 not_in_time b (Write a ∷ p) is waits = go (starts b p a) refl waits (not_in_time b p)
   where
-    go : (test : Bool) → starts b p a ≡ test → cond test Waiting (stage_of b p) ≡ Waiting → (phase_of b p ≡ Execution → stage_of b p ≡ Waiting → asked_in_time b p ≡ false) → cond test false (asked_in_time b p) ≡ false
+    go : (test : Bool) → starts b p a ≡ test → cond test Waiting (stage_of b p) ≡ Waiting → (phase_of b p ≡ Execution → stage_of b p ≡ Waiting → cancelled_in_emulator b p ≡ false) → cond test false (cancelled_in_emulator b p) ≡ false
     go true begins waits_now before = refl
     go false other waits_now before = before (was_executing (effect_of a) (is_granted b p) (phase_of b p) is other) waits_now
 not_in_time b (Read a v ∷ p) is waits = not_in_time b p is waits
 not_in_time b (Claim ∷ p) is waits = cc
 not_in_time b (Sent ∷ p) is waits = refl
 not_in_time b (Exec ∷ p) is waits = cc
-not_in_time b (Ask arrived ∷ p) is waits = go (asked_in_time b p) arrived (stage_of b p) (not_in_time b p is waits) waits
+not_in_time b (Ask arrived ∷ p) is waits = go (cancelled_in_emulator b p) arrived (stage_of b p) (not_in_time b p is waits) waits
   where
-    go : (before came : Bool) (stage : Stage) → before ≡ false → stage ≡ Waiting → (before || (came && is_sent stage)) ≡ false
+    go : (before came : Bool) (stage : JobStage) → before ≡ false → stage ≡ Waiting → (before || (came && is_sent stage)) ≡ false
     go before true stage none here = rw (none, here) refl
     go before false stage none here = rw none refl
 not_in_time b (Finish outcome ∷ p) is waits = absurd (ended outcome (phase_of b p) is)
 not_in_time b (Reset ∷ p) is waits = cc
 not_in_time b (ResetLost ∷ p) is waits = cc
 
-agrees-start : (b : Base) (h : History) → MaySuspend b h → Agrees b h (executed b h) (base_after b h) []
+agrees-start : (b : Snapshot) (h : History) → MaySuspend b h → Agrees b h (executed b h) (snapshot_after b h) []
 agrees-start b h may = record {
   registers = refl;
   number = sym (waiting-number (is_executing (phase_of b h)) (number_of b h) (command_in (slice_index (content_after b h))));
@@ -207,14 +207,14 @@ agrees-start b h may = record {
   stage = λ is. may.unclaimed is;
   asked = λ is held. held-asked b h (right_true _ _ held);
   past = refl;
-  held = λ is. ap (λ (phase : Phase). is_executing phase && held_back b h) (sym is);
+  held = λ is. ap (λ (phase : Phase). is_executing phase && cancelled_before_claim b h) (sym is);
   in_time = λ is. not_in_time b h is (may.unclaimed is);
 }
 
 -- ---- one more event
 
 -- the byte of the page is the same
-shows-same : (b : Base) (p : History) (sooner : List Entry) (c : Base) (q : History) → Agrees b p sooner c q → (i : ℕ) → i < 0x1000 → shows c q i ≡ shows b p i
+shows-same : (b : Snapshot) (p : History) (sooner : List Entry) (c : Snapshot) (q : History) → Agrees b p sooner c q → (i : ℕ) → i < 0x1000 → shown_byte c q i ≡ shown_byte b p i
 shows-same b p sooner c q a i lt = go (nat_lt i 0x80)
   where
     byte : buffer b p (i - 0x80) ≡ buffer c q (i - 0x80)
@@ -244,18 +244,18 @@ or_implies false true r s same more h = absurd (wrong (more refl))
 or_implies false false r s same more h = sym same ∙ h
 
 -- the latest command and number, by whether one was started
-latest_by : (t u : Bool) (number other : ℕ) (command wanted : List ℕ) (b c : Base) (p q : History) → u ≡ t → (t ≡ true → command ≡ wanted) → (t ≡ false → last_command b p ≡ last_command c q)
+latest_by : (t u : Bool) (number other : ℕ) (command wanted : List ℕ) (b c : Snapshot) (p q : History) → u ≡ t → (t ≡ true → command ≡ wanted) → (t ≡ false → last_command b p ≡ last_command c q)
     → latest_command (if t then record { number = number; command = command } ∷ started b p else started b p) ≡ latest_command (if u then record { number = other; command = wanted } ∷ started c q else started c q)
 latest_by true u number other command wanted b c p q same so not_so = rw same (so refl)
 latest_by false u number other command wanted b c p q same so not_so = rw same (not_so refl)
 
-number_by : (t u : Bool) (number other : ℕ) (command wanted : List ℕ) (b c : Base) (p q : History) → u ≡ t → number ≡ other → number_of b p ≡ number_of c q
+number_by : (t u : Bool) (number other : ℕ) (command wanted : List ℕ) (b c : Snapshot) (p q : History) → u ≡ t → number ≡ other → number_of b p ≡ number_of c q
     → latest_number b.device.number (if t then record { number = number; command = command } ∷ started b p else started b p) ≡ latest_number c.device.number (if u then record { number = other; command = wanted } ∷ started c q else started c q)
 number_by true u number other command wanted b c p q same so not_so = rw same so
 number_by false u number other command wanted b c p q same so not_so = rw same not_so
 
 -- one more write
-agrees-write : (b : Base) (p : History) (sooner : List Entry) (c : Base) (q : History) (a : Access) → Agrees b p sooner c q → Agrees b (Write a ∷ p) sooner c (Write a ∷ q)
+agrees-write : (b : Snapshot) (p : History) (sooner : List Entry) (c : Snapshot) (q : History) (a : Access) → Agrees b p sooner c q → Agrees b (Write a ∷ p) sooner c (Write a ∷ q)
 agrees-write b p sooner c q a g =
     let phase : phase_of b p ≡ phase_of c q = phase_is b p c q g.registers in
     let granted : is_granted b p ≡ is_granted c q = granted_is b p c q g.registers in
@@ -273,7 +273,7 @@ agrees-write b p sooner c q a g =
           (λ other. g.stage (was_executing (effect_of a) (is_granted b p) (phase_of b p) is other));
       asked = λ is. cond_implies (starts b p a) (starts c q a) (is_cancel b p) _ (is_cancel c q) _ begins
           (λ h. cancel ∙ h)
-          (λ other h. or_implies (is_asked b p) (is_asked c q) (sets_cancel (effect_of a) && accepts b p a) (sets_cancel (effect_of a) && accepts c q a) (rw (granted, phase) refl) (g.asked (was_executing (effect_of a) (is_granted b p) (phase_of b p) is other)) h);
+          (λ other h. or_implies (cancel_requested b p) (cancel_requested c q) (sets_cancel (effect_of a) && accepts b p a) (sets_cancel (effect_of a) && accepts c q a) (rw (granted, phase) refl) (g.asked (was_executing (effect_of a) (is_granted b p) (phase_of b p) is other)) h);
       past = g.past;
       held = λ is. cond_same (starts b p a) (starts c q a) (is_cancel b p) _ (is_cancel c q) _ begins
           (λ so. cancel)
@@ -282,13 +282,13 @@ agrees-write b p sooner c q a g =
           let kept = g.held was in
           let reached = g.stage was in
           rw (granted, phase, kept, reached) refl);
-      in_time = λ is. cond_same (starts b p a) (starts c q a) false (asked_in_time b p) false (asked_in_time c q) begins
+      in_time = λ is. cond_same (starts b p a) (starts c q a) false (cancelled_in_emulator b p) false (cancelled_in_emulator c q) begins
           (λ so. refl)
           (λ other. g.in_time (was_executing (effect_of a) (is_granted b p) (phase_of b p) is other));
     }
 
 -- the end of a command as done
-agrees-done : (b : Base) (p : History) (sooner : List Entry) (c : Base) (q : History) → Joins b sooner c → Agrees b p sooner c q → phase_of b p ≡ Execution → Agrees b (Finish Done ∷ p) sooner c (Finish Done ∷ q)
+agrees-done : (b : Snapshot) (p : History) (sooner : List Entry) (c : Snapshot) (q : History) → Joins b sooner c → Agrees b p sooner c q → phase_of b p ≡ Execution → Agrees b (Finish Done ∷ p) sooner c (Finish Done ∷ q)
 agrees-done b p sooner c q joins g is =
     let phase : phase_of b p ≡ phase_of c q = phase_is b p c q g.registers in
     let granted : is_granted b p ≡ is_granted c q = granted_is b p c q g.registers in
@@ -309,7 +309,7 @@ agrees-done b p sooner c q joins g is =
     }
 
 -- the end of a command that isn't executed
-agrees-end : (b : Base) (p : History) (sooner : List Entry) (c : Base) (q : History) (outcome : Outcome) → Agrees b p sooner c q
+agrees-end : (b : Snapshot) (p : History) (sooner : List Entry) (c : Snapshot) (q : History) (outcome : Outcome) → Agrees b p sooner c q
     → ((i : ℕ) → i < 3968 → buffer b (Finish outcome ∷ p) i ≡ buffer c (Finish outcome ∷ q) i)
     → executed b (Finish outcome ∷ p) ≡ executed c (Finish outcome ∷ q) ++ sooner
     → Agrees b (Finish outcome ∷ p) sooner c (Finish outcome ∷ q)
@@ -330,15 +330,15 @@ agrees-end b p sooner c q outcome g bytes past =
     }
 
 -- one more event
-agrees-more : (b : Base) (p : History) (sooner : List Entry) (c : Base) (q : History) (e : Event) → Joins b sooner c → Agrees b p sooner c q → MayCome c q e → Agrees b (e ∷ p) sooner c (e ∷ q)
+agrees-more : (b : Snapshot) (p : History) (sooner : List Entry) (c : Snapshot) (q : History) (e : Event) → Joins b sooner c → Agrees b p sooner c q → IsEnabled c q e → Agrees b (e ∷ p) sooner c (e ∷ q)
 agrees-more b p sooner c q (Write a) joins g may = agrees-write b p sooner c q a g
 agrees-more b p sooner c q (Read access value) joins g may = record { registers = g.registers; number = g.number; bytes = g.bytes; command = g.command; stage = g.stage; asked = g.asked; past = g.past; held = g.held; in_time = g.in_time }
 agrees-more b p sooner c q Claim joins g may = record { registers = g.registers; number = g.number; bytes = g.bytes; command = g.command; stage = λ is. refl; asked = g.asked; past = g.past; held = g.held; in_time = g.in_time }
 agrees-more b p sooner c q Sent joins g may = record { registers = g.registers; number = g.number; bytes = g.bytes; command = g.command; stage = λ is. refl; asked = g.asked; past = g.past; held = g.held; in_time = λ is. refl }
 agrees-more b p sooner c q Exec joins g may = record { registers = g.registers; number = g.number; bytes = g.bytes; command = g.command; stage = λ is. refl; asked = g.asked; past = g.past; held = g.held; in_time = g.in_time }
-agrees-more b p sooner c q (Ask arrived) joins g may = record { registers = g.registers; number = g.number; bytes = g.bytes; command = g.command; stage = g.stage; asked = λ is h. or_implies (is_asked b p) (is_asked c q) arrived arrived refl (g.asked is) h; past = g.past; held = g.held; in_time = λ is. asks (g.in_time is) (g.stage is) }
+agrees-more b p sooner c q (Ask arrived) joins g may = record { registers = g.registers; number = g.number; bytes = g.bytes; command = g.command; stage = g.stage; asked = λ is h. or_implies (cancel_requested b p) (cancel_requested c q) arrived arrived refl (g.asked is) h; past = g.past; held = g.held; in_time = λ is. asks (g.in_time is) (g.stage is) }
   where
-    asks : asked_in_time b p ≡ asked_in_time c q → stage_of b p ≡ stage_of c q → (asked_in_time b p || (arrived && is_sent (stage_of b p))) ≡ (asked_in_time c q || (arrived && is_sent (stage_of c q)))
+    asks : cancelled_in_emulator b p ≡ cancelled_in_emulator c q → stage_of b p ≡ stage_of c q → (cancelled_in_emulator b p || (arrived && is_sent (stage_of b p))) ≡ (cancelled_in_emulator c q || (arrived && is_sent (stage_of c q)))
     asks before reached = rw (before, reached) refl
 agrees-more b p sooner c q (Finish Done) joins g may = agrees-done b p sooner c q joins g (phase_is b p c q g.registers ∙ may.executing)
 agrees-more b p sooner c q (Finish Cancelled) joins g may = agrees-end b p sooner c q Cancelled g (λ i lt. refl) g.past
@@ -347,8 +347,8 @@ agrees-more b p sooner c q Reset joins g may = record { registers = refl; number
 agrees-more b p sooner c q ResetLost joins g may = record { registers = refl; number = g.number; bytes = λ i lt. refl; command = λ e. absurd (not_lost e); stage = λ e. absurd (not_lost e); asked = λ e. absurd (not_lost e); past = g.past; held = λ e. absurd (not_lost e); in_time = λ e. absurd (not_lost e) }
 
 -- what may come in one may come in the other
-may-come : (b : Base) (p : History) (sooner : List Entry) (c : Base) (q : History) (e : Event) → Agrees b p sooner c q → MayCome c q e → MayCome b p e
-may-come b p sooner c q (Read access value) g may = (may.0, may.1 ∙ number_at-same (shows c q) (shows b p) 0x1000 (shows-same b p sooner c q g) access.offset access.size may.0)
+may-come : (b : Snapshot) (p : History) (sooner : List Entry) (c : Snapshot) (q : History) (e : Event) → Agrees b p sooner c q → IsEnabled c q e → IsEnabled b p e
+may-come b p sooner c q (Read access value) g may = (may.0, may.1 ∙ number_at-same (shown_byte c q) (shown_byte b p) 0x1000 (shows-same b p sooner c q g) access.offset access.size may.0)
 may-come b p sooner c q (Write a) g may = tt
 may-come b p sooner c q Claim g may = let is = phase_is b p c q g.registers ∙ may.executing in record { executing = is; reached = g.stage is ∙ may.reached }
 may-come b p sooner c q Sent g may = let is = phase_is b p c q g.registers ∙ may.executing in record { executing = is; reached = g.stage is ∙ may.reached }
@@ -360,17 +360,17 @@ may-come b p sooner c q (Ask arrived) g may = tt
 may-come b p sooner c q Reset g may = record { working = λ w. may.working (sym (phase_is b p c q g.registers) ∙ w); unclaimed = λ is. g.stage is ∙ may.unclaimed (sym (phase_is b p c q g.registers) ∙ is) }
 may-come b p sooner c q ResetLost g may = record { working = λ w. may.working (sym (phase_is b p c q g.registers) ∙ w); unclaimed = λ is. g.stage is ∙ may.unclaimed (sym (phase_is b p c q g.registers) ∙ is) }
 
-pub agrees : (b : Base) (h more : History) → Joins b (executed b h) (base_after b h) → MaySuspend b h → Legal (base_after b h) more → Agrees b (more ++ h) (executed b h) (base_after b h) more
+pub agrees : (b : Snapshot) (h more : History) → Joins b (executed b h) (snapshot_after b h) → MaySuspend b h → Legal (snapshot_after b h) more → Agrees b (more ++ h) (executed b h) (snapshot_after b h) more
 agrees b h [] joins may legal = agrees-start b h may
-agrees b h (e ∷ more) joins may legal = agrees-more b (more ++ h) (executed b h) (base_after b h) more e joins (agrees b h more joins may legal.0) legal.1
+agrees b h (e ∷ more) joins may legal = agrees-more b (more ++ h) (executed b h) (snapshot_after b h) more e joins (agrees b h more joins may legal.0) legal.1
 
-pub continues : (b : Base) (h more : History) → Joins b (executed b h) (base_after b h) → Legal b h → MaySuspend b h → Legal (base_after b h) more → Legal b (more ++ h)
+pub continues : (b : Snapshot) (h more : History) → Joins b (executed b h) (snapshot_after b h) → Legal b h → MaySuspend b h → Legal (snapshot_after b h) more → Legal b (more ++ h)
 continues b h [] joins legal may more = legal
 continues b h (e ∷ rest) joins legal may more =
-    (continues b h rest joins legal may more.0, may-come b (rest ++ h) (executed b h) (base_after b h) rest e (agrees b h rest joins may more.0) more.1)
+    (continues b h rest joins legal may more.0, may-come b (rest ++ h) (executed b h) (snapshot_after b h) rest e (agrees b h rest joins may more.0) more.1)
 
-pub shows-on : (b : Base) (h more : History) → Joins b (executed b h) (base_after b h) → MaySuspend b h → Legal (base_after b h) more → (i : ℕ) → i < 0x1000 → shows (base_after b h) more i ≡ shows b (more ++ h) i
-shows-on b h more joins may legal i lt = shows-same b (more ++ h) (executed b h) (base_after b h) more (agrees b h more joins may legal) i lt
+pub shows-on : (b : Snapshot) (h more : History) → Joins b (executed b h) (snapshot_after b h) → MaySuspend b h → Legal (snapshot_after b h) more → (i : ℕ) → i < 0x1000 → shown_byte (snapshot_after b h) more i ≡ shown_byte b (more ++ h) i
+shows-on b h more joins may legal i lt = shows-same b (more ++ h) (executed b h) (snapshot_after b h) more (agrees b h more joins may legal) i lt
 
-pub past-on : (b : Base) (h more : History) → Joins b (executed b h) (base_after b h) → MaySuspend b h → Legal (base_after b h) more → executed b (more ++ h) ≡ executed (base_after b h) more ++ executed b h
+pub past-on : (b : Snapshot) (h more : History) → Joins b (executed b h) (snapshot_after b h) → MaySuspend b h → Legal (snapshot_after b h) more → executed b (more ++ h) ≡ executed (snapshot_after b h) more ++ executed b h
 past-on b h more joins may legal = (agrees b h more joins may legal).past

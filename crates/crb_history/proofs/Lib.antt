@@ -1,10 +1,6 @@
 pub mod Bytes
 pub mod Phases
-pub mod Held
+pub mod CancelledBeforeClaim
 mod Numbers
 mod Lost
 pub mod Continuing
-pub mod Unordered
-mod Unlost
-mod Rejoining
-mod Ending

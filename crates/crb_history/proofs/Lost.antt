@@ -10,11 +10,11 @@ use Rattle.crb_regs.specs.declared.effect.Effect.TheVariants.{Buffer, CmdReady, 
 use Rattle.crb_machine.specs.Phases.{is_accepted, phase_after}
 use Rattle.crb_machine.specs.Steps.{buffer_byte}
 use Rattle.crb_port.specs.declared.job.Outcome.TheVariants.{Done, Cancelled, Lost as EndedLost}
-use Rattle.crb_history.specs.Base.{Base}
+use Rattle.crb_history.specs.Snapshot.{Snapshot}
 use Rattle.crb_history.specs.Event.{Event, History}
 use Rattle.crb_history.specs.Event.Event.{Read, Write, Claim, Sent, Exec, Finish, Ask, Reset, ResetLost}
-use Rattle.crb_history.specs.Device.{effect_of, phase_of, is_granted, registers_of, buffer, shows}
-use Rattle.crb_history.specs.Legal.{Legal, MayCome}
+use Rattle.crb_history.specs.Device.{effect_of, phase_of, is_granted, registers_of, buffer, shown_byte}
+use Rattle.crb_history.specs.Legal.{Legal, IsEnabled}
 
 -- a lost device accepts no write
 refused-Lost : (e : Effect) (granted : Bool) → is_accepted e granted Lost ≡ false
@@ -43,7 +43,7 @@ not_executing : (phase : Phase) → phase ≡ Lost → phase ≡ Execution → �
 not_executing phase lost executing = let wrong : Lost ≡ Execution = sym lost ∙ executing in cc
 
 -- one event on a lost device changes none of its registers
-registers-event : (b : Base) (p : History) (e : Event) → MayCome b p e → phase_of b p ≡ Lost → registers_of b (e ∷ p) ≡ registers_of b p
+registers-event : (b : Snapshot) (p : History) (e : Event) → IsEnabled b p e → phase_of b p ≡ Lost → registers_of b (e ∷ p) ≡ registers_of b p
 registers-event b p (Read a v) may lost = refl
 registers-event b p (Write a) may lost = rw (lost, refused-Lost (effect_of a) (is_granted b p), phase_after-Lost (effect_of a) (is_granted b p)) refl
 registers-event b p Claim may lost = refl
@@ -57,13 +57,13 @@ registers-event b p Reset may lost = absurd (may.working lost)
 registers-event b p ResetLost may lost = absurd (may.working lost)
 
 -- nor do more of them
-pub registers-Lost : (b : Base) (p more : History) → Legal b (more ++ p) → phase_of b p ≡ Lost → registers_of b (more ++ p) ≡ registers_of b p
+pub registers-Lost : (b : Snapshot) (p more : History) → Legal b (more ++ p) → phase_of b p ≡ Lost → registers_of b (more ++ p) ≡ registers_of b p
 registers-Lost b p [] legal lost = refl
 registers-Lost b p (e ∷ more) legal lost =
     let before : registers_of b (more ++ p) ≡ registers_of b p = registers-Lost b p more legal.0 lost in
     registers-event b (more ++ p) e legal.1 (ap (λ (r : Regs). r.phase) before ∙ lost) ∙ before
 
-pub phase-Lost : (b : Base) (p more : History) → Legal b (more ++ p) → phase_of b p ≡ Lost → phase_of b (more ++ p) ≡ Lost
+pub phase-Lost : (b : Snapshot) (p more : History) → Legal b (more ++ p) → phase_of b p ≡ Lost → phase_of b (more ++ p) ≡ Lost
 phase-Lost b p more legal lost = ap (λ (r : Regs). r.phase) (registers-Lost b p more legal lost) ∙ lost
 
 -- a page by its registers alone, where the buffer isn't shown
@@ -72,7 +72,7 @@ same-page : (below : Bool) (regs now : Regs) (phase after : Phase) (i held other
 same-page true regs now phase after i held other same lost still = ap (λ r. register_byte r i) same
 same-page false regs now phase after i held other same lost still = rw (lost, still) refl
 
-pub shows-Lost : (b : Base) (p more : History) → Legal b (more ++ p) → phase_of b p ≡ Lost → (i : ℕ) → shows b (more ++ p) i ≡ shows b p i
+pub shows-Lost : (b : Snapshot) (p more : History) → Legal b (more ++ p) → phase_of b p ≡ Lost → (i : ℕ) → shown_byte b (more ++ p) i ≡ shown_byte b p i
 shows-Lost b p more legal lost i =
     same-page (nat_lt i 0x80) (registers_of b p) (registers_of b (more ++ p)) (phase_of b p) (phase_of b (more ++ p)) i (buffer b p (i - 0x80)) (buffer b (more ++ p) (i - 0x80))
     (registers-Lost b p more legal lost) lost (phase-Lost b p more legal lost)

@@ -3,13 +3,13 @@ use Rattle.std.specs.Prelude.{ℕ, ◌+◌, if◌then◌else◌, List, [], ◌�
 use Rattle.crb_port.specs.declared.job.Outcome.TheVariants.{Done}
 use Rattle.tpm_core.specs.Answers.{Entry}
 use Rattle.tpm_core.specs.Answers.Entry.{Executed}
-use Rattle.crb_history.specs.Base.{Base}
+use Rattle.crb_history.specs.Snapshot.{Snapshot}
 use Rattle.crb_history.specs.Event.{History}
 use Rattle.crb_history.specs.Event.Event.{Write, Finish}
 use Rattle.crb_history.specs.Device.{starts}
 
 -- how many commands were started
-abbrev pub start_count : Base → History → ℕ
+abbrev pub start_count : Snapshot → History → ℕ
 start_count b [] = 0
 start_count b (Write a ∷ p) = if starts b p a then start_count b p + 1 else start_count b p
 start_count b (_ ∷ p) = start_count b p

@@ -17,7 +17,7 @@ use Rattle.tpm_core.specs.Answers.{Entry, answer}
 use Rattle.tpm_core.specs.Answers.Entry.{Executed, PowerOn}
 use Rattle.tpm_core.specs.Responses.{cancelled}
 use Rattle.crb_history.specs.Bytes.{command_in}
-use Rattle.crb_history.specs.Base.{Base}
+use Rattle.crb_history.specs.Snapshot.{Snapshot}
 use Rattle.crb_history.specs.Event.{History}
 use Rattle.crb_history.specs.Event.Event.{Write, Claim, Sent, Exec, Finish, Reset, ResetLost}
 
@@ -37,7 +37,7 @@ phase_at_end _ phase = phase
 
 abbrev mutual
   -- the phase after the events
-  pub phase_of : Base → History → Phase
+  pub phase_of : Snapshot → History → Phase
   phase_of b [] = b.device.phase
   phase_of b (Write a ∷ p) = phase_after (effect_of a) (is_granted b p) (phase_of b p)
   phase_of b (Finish outcome ∷ p) = phase_at_end outcome (phase_of b p)
@@ -46,7 +46,7 @@ abbrev mutual
   phase_of b (_ ∷ p) = phase_of b p
 
   -- whether access is granted: the latest accepted request or relinquish decides, unless a reset came after it
-  pub is_granted : Base → History → Bool
+  pub is_granted : Snapshot → History → Bool
   is_granted b [] = b.device.granted
   is_granted b (Write a ∷ p) =
       if is_accepted (effect_of a) (is_granted b p) (phase_of b p)
@@ -57,11 +57,11 @@ abbrev mutual
   is_granted b (_ ∷ p) = is_granted b p
 
 -- whether a write is accepted after the events
-abbrev pub accepts : Base → History → Access → Bool
+abbrev pub accepts : Snapshot → History → Access → Bool
 accepts b p a = is_accepted (effect_of a) (is_granted b p) (phase_of b p)
 
 -- the value of CANCEL: the latest accepted write of it decides, unless a reset came after it
-abbrev pub is_cancel : Base → History → Bool
+abbrev pub is_cancel : Snapshot → History → Bool
 is_cancel b [] = b.device.cancel
 is_cancel b (Write a ∷ p) = if accepts b p a then cancel_after (effect_of a) (is_cancel b p) else is_cancel b p
 is_cancel b (Reset ∷ p) = false
@@ -69,7 +69,7 @@ is_cancel b (ResetLost ∷ p) = false
 is_cancel b (_ ∷ p) = is_cancel b p
 
 -- whether a write starts a command
-abbrev pub starts : Base → History → Access → Bool
+abbrev pub starts : Snapshot → History → Access → Bool
 starts b p a = is_start (effect_of a) && accepts b p a
 
 -- a command that was started: its number and its bytes
@@ -98,7 +98,7 @@ byte_after GoIdle a i was = 0
 byte_after _ a i was = was
 
 -- a command that waits when the history begins was started before it
-abbrev pub waiting_start : Base → List Start
+abbrev pub waiting_start : Snapshot → List Start
 waiting_start b =
     if is_executing b.device.phase
     then record { number = b.device.number; command = command_in (slice_index b.device.content) } ∷ []
@@ -106,7 +106,7 @@ waiting_start b =
 
 abbrev mutual
   -- byte i of the buffer, as the latest event that set it left it
-  pub buffer : Base → History → ℕ → ℕ
+  pub buffer : Snapshot → History → ℕ → ℕ
   buffer b [] i = slice_index b.device.content i
   buffer b (Write a ∷ p) i = if accepts b p a then byte_after (effect_of a) a i (buffer b p i) else buffer b p i
   buffer b (Finish Done ∷ p) i = slice_index (answer b.tpm (executed b p) (latest_command (started b p))) i
@@ -116,7 +116,7 @@ abbrev mutual
   buffer b (_ ∷ p) i = buffer b p i
 
   -- the commands that were started, the latest first; each has the number after the one before it
-  pub started : Base → History → List Start
+  pub started : Snapshot → History → List Start
   started b [] = waiting_start b
   started b (Write a ∷ p) =
       if starts b p a
@@ -125,42 +125,42 @@ abbrev mutual
   started b (_ ∷ p) = started b p
 
   -- what the TPM went through, the latest first: each command that finished as done, and each reset
-  pub executed : Base → History → List Entry
+  pub executed : Snapshot → History → List Entry
   executed b [] = []
   executed b (Finish Done ∷ p) = Executed (latest_command (started b p)) ∷ executed b p
   executed b (Reset ∷ p) = PowerOn ∷ executed b p
   executed b (_ ∷ p) = executed b p
 
 -- the number of the last command
-abbrev pub number_of : Base → History → ℕ
+abbrev pub number_of : Snapshot → History → ℕ
 number_of b p = latest_number b.device.number (started b p)
 
 -- the bytes of the last command
-abbrev pub last_command : Base → History → List ℕ
+abbrev pub last_command : Snapshot → History → List ℕ
 last_command b p = latest_command (started b p)
 
 -- what the registers show
-abbrev pub registers_of : Base → History → Regs
+abbrev pub registers_of : Snapshot → History → Regs
 registers_of b p = record { granted = is_granted b p; cancel = is_cancel b p; phase = phase_of b p }
 
 -- the byte of the page that a guest reads
-abbrev pub shows : Base → History → ℕ → ℕ
-shows b p at =
+abbrev pub shown_byte : Snapshot → History → ℕ → ℕ
+shown_byte b p at =
     if nat_lt at 0x80
     then register_byte (registers_of b p) at
     else buffer_byte (phase_of b p) (buffer b p (at - 0x80))
 
 -- how far the last command has come
-pub data Stage : Type 0 where
-  Waiting : Stage
-  Claimed : Stage
-  HasSent : Stage
-  HasRun : Stage
+pub data JobStage : Type 0 where
+  Waiting : JobStage
+  Claimed : JobStage
+  HasSent : JobStage
+  HasHeader : JobStage
 
-abbrev pub stage_of : Base → History → Stage
+abbrev pub stage_of : Snapshot → History → JobStage
 stage_of b [] = Waiting
 stage_of b (Write a ∷ p) = if starts b p a then Waiting else stage_of b p
 stage_of b (Claim ∷ p) = Claimed
 stage_of b (Sent ∷ p) = HasSent
-stage_of b (Exec ∷ p) = HasRun
+stage_of b (Exec ∷ p) = HasHeader
 stage_of b (_ ∷ p) = stage_of b p

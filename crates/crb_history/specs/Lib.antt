@@ -1,12 +1,8 @@
 pub mod Bytes
-pub mod Base
+pub mod Snapshot
 pub mod Event
 pub mod Device
-pub mod Asked
+pub mod Cancelling
 pub mod Legal
-pub mod Replies
-pub mod OneHost
 pub mod Counts
 pub mod Continued
-pub mod Plain
-pub mod Endings

@@ -7,7 +7,7 @@ use Rattle.crb_regs.specs.declared.registers.Regs.{Regs}
 pub record DeviceModel (P : Type 0) : Type 0 where
   pub regs : Regs
   pub number : ℕ
-  pub home : Option (List ℕ)
+  pub own_buffer : Option (List ℕ)
   pub held : Bool
   pub cancelled : Bool
   pub port : P

@@ -1,4 +1,4 @@
--- The device over a port that tells what stands in it. (Own definitions.)
+-- The device over a port whose state is known. (Own definitions.)
 use Rattle.std.specs.Prelude.{ℕ, List, Bool, true, false}
 use Rattle.crb_regs.specs.declared.registers.Regs.{Regs}
 use Rattle.crb_port.specs.declared.job.Job.{Job}
@@ -6,7 +6,7 @@ use Rattle.crb_port.specs.declared.job.Answer.{Answer}
 
 -- where the buffer is: with the device, in a job that waits, out with a claimed job, or in an answer
 pub data Slot : Type 0 where
-  Home : List ℕ → Slot
+  InDevice : List ℕ → Slot
   Queued : Job → Slot
   Claimed : Slot
   Answered : Answer → Slot
@@ -18,6 +18,6 @@ pub record DeviceState : Type 0 where
   pub slot : Slot
 
 -- whether the buffer is with the device
-abbrev pub is_home : Slot → Bool
-is_home (Home buf) = true
-is_home _ = false
+abbrev pub is_in_device : Slot → Bool
+is_in_device (InDevice buf) = true
+is_in_device _ = false

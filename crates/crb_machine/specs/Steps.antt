@@ -17,20 +17,20 @@ use Rattle.crb_port.specs.declared.job.Outcome.TheVariants.{Lost as EndedLost}
 use Rattle.crb_port.specs.declared.job.Job.{Job}
 use Rattle.crb_port.specs.declared.job.Answer.{Answer}
 use Rattle.crb_machine.specs.declared.device.NotYet.{NotYet}
-use Rattle.crb_machine.specs.State.Slot.{Home, Queued, Claimed, Answered}
+use Rattle.crb_machine.specs.State.Slot.{InDevice, Queued, Claimed, Answered}
 
 -- a device after a reset, before its first job
 abbrev pub fresh_state : DeviceState
-fresh_state = record { regs = reset_regs; number = 0; slot = Home (zeros 3968) }
+fresh_state = record { regs = reset_regs; number = 0; slot = InDevice (zeros 3968) }
 
 -- the phase in which an execution ends
 abbrev pub ended_phase : Outcome → Phase
 ended_phase EndedLost = Lost
 ended_phase _ = Completion
 
--- the device once it took home an answer that stood
+-- the device once it took back an answer that stood
 abbrev pub collected_at : Slot → DeviceState → DeviceState
-collected_at (Answered answer) d = record d { regs = record d.regs { phase = ended_phase answer.outcome }; slot = Home answer.buf }
+collected_at (Answered answer) d = record d { regs = record d.regs { phase = ended_phase answer.outcome }; slot = InDevice answer.buf }
 collected_at _ d = d
 
 abbrev pub collected : DeviceState → DeviceState
@@ -38,7 +38,7 @@ collected d = collected_at d.slot d
 
 -- the buffer's bytes, where the device has them
 abbrev pub content : Slot → List ℕ
-content (Home buf) = buf
+content (InDevice buf) = buf
 content _ = []
 
 -- a byte of the buffer as it reads, by what it holds
@@ -89,7 +89,7 @@ TakesJob old new (Some job) = (old.slot ≡ Queued job) × (new ≡ record old {
 -- the device after a reset, by its phase: one that is lost stays as it is
 abbrev pub reset_at : Phase → DeviceState → DeviceState
 reset_at Lost d = d
-reset_at _ d = record d { regs = reset_regs; slot = Home (zeros 3968) }
+reset_at _ d = record d { regs = reset_regs; slot = InDevice (zeros 3968) }
 
 -- the device after a reset of the guest, whose number is kept
 abbrev pub reset_of : DeviceState → DeviceState

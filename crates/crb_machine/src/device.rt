@@ -1,15 +1,15 @@
 //! The device.
 ghost use Rattle.std.specs.Prelude.{◌≡◌, ◌≢◌, ◌^◌, ◌<◌, ◌≤◌, [], length, true, false, Some, None, Ok, IfOk, IfErr, IfSome, OnOk, OnErr, IsSome, IsSomeAnd, IsNone};
-ghost use Rattle.crb_regs.specs.LittleEndian.{number_at};
+ghost use Rattle.crb_regs.specs.LittleEndian.{little_endian_at};
 ghost use Rattle.vt_base.specs.Buffer.{zeros, followed_by_zeros};
 ghost use Rattle.crb_regs.specs.Registers.{is_lost, reset_regs};
 ghost use Rattle.crb_machine.specs.Steps.{fresh_state, collected, written, device_byte, after_reset, reset_reply, failed, answered, TakesJob};
-ghost use Rattle.crb_machine.specs.Values.{AreFit, values_at, device_of, held_values, with_values};
-ghost use Rattle.crb_machine.specs.Over.{IsSound, HasInHand, Settles, Writes, Resets, Stops, GoesOn, own_byte, state_of};
+ghost use Rattle.crb_machine.specs.Values.{AreValid, values_at, device_of, held_values, with_values};
+ghost use Rattle.crb_machine.specs.Over.{IsConsistentDevice, HasClaimedNumber, CollectsAnswer, Writes, Resets, Stops, GoesOn, own_byte, state_of};
 ghost use Rattle.crb_port.specs.Calls.{KeepsWorker, Claims, Posts};
 
 use crate::parts::DeviceParts;
-use crb_port::{Answer, Job, Meanings, Port, WorkPort};
+use crb_port::{Answer, Job, Port, PortModel, WorkPort};
 use crb_regs::{Access, Phase, Regs};
 use std::alloc::{AllocError, Global};
 use std::error::Error;
@@ -17,7 +17,7 @@ use std::fmt;
 use std::marker::Model;
 use vt_base::Buf;
 
-/// The job of this number is claimed, so that its buffer can't come home yet.
+/// The job of this number is claimed, so that its buffer can't come back yet.
 #[derive(Clone, Copy, Debug, PartialEq, Eq)]
 pub struct NotYet {
     pub number: u64,
@@ -40,33 +40,33 @@ pub struct Device<P: Port> {
 impl<P: Port> Model for Device<P> {
     ghost use Rattle.crb_machine.specs.Model.{DeviceModel};
     ghost use Rattle.crb_machine.specs.Parts.{model_of};
-    ghost use Rattle.crb_machine.specs.Over.{IsSound};
+    ghost use Rattle.crb_machine.specs.Over.{IsConsistentDevice};
 
     ghost Value = { DeviceModel P };
 
     ghost view = { λ d. model_of d.parts };
 
-    ghost invariant = { λ d. IsSound P.known (model_of d.parts) };
+    ghost invariant = { λ d. IsConsistentDevice P.port_view (model_of d.parts) };
 }
 
 impl<P: Port + Drop> Device<P> {
     /// A device after a reset, with number 0.
     pub fn new(alloc: Global, port: P) -> Result<Device<P>, AllocError>
-        requires free { (P.known port).is_free ≡ true }
+        requires free { (P.port_view port).is_free ≡ true }
 
-        ensures fresh { IfOk result (λ d. d ≡ record { regs = reset_regs; number = 0; home = Some (zeros 3968); held = false; cancelled = false; port = port }) }
-        ensures sound { IfOk result (IsSound P.known) }
-        ensures hand { IfOk result (HasInHand P.known) }
+        ensures fresh { IfOk result (λ d. d ≡ record { regs = reset_regs; number = 0; own_buffer = Some (zeros 3968); held = false; cancelled = false; port = port }) }
+        ensures consistent { IfOk result (IsConsistentDevice P.port_view) }
+        ensures claimed_number { IfOk result (HasClaimedNumber P.port_view) }
 
-        // Over a port that tells its state.
-        ensures told { IfSome (P.known port).state (λ _. IfOk result (λ d. state_of P.known d ≡ Some fresh_state)) }
+        // Over a port whose state is known.
+        ensures exact { IfSome (P.port_view port).state (λ _. IfOk result (λ d. state_of P.port_view d ≡ Some fresh_state)) }
     {
         let buf = Buf::new(alloc)?;
         Ok(Device {
             parts: DeviceParts {
                 regs: Regs::reset(),
                 number: 0,
-                home: Some(buf),
+                own_buffer: Some(buf),
                 held: false,
                 cancelled: false,
                 port,
@@ -76,65 +76,65 @@ impl<P: Port + Drop> Device<P> {
 }
 
 impl<P: Port> Device<P> {
-    /// A read of the guest: an answer that stands is taken home, and the little-endian number of the bytes of the
+    /// A read of the guest: an answer that stands is taken back, and the little-endian number of the bytes of the
     /// page is given, each byte by itself.
     pub fn read(&mut self, a: &Access) -> u64
         requires runs { self.old.held ≡ false }
         requires reads { IsNone a.now.write }
 
         ensures runs { self.new.held ≡ false }
-        ensures settles { Settles P.known self.old self.new }
-        ensures worker { KeepsWorker (P.known self.old.port) (P.known self.new.port) }
-        ensures value { result ≡ number_at (own_byte self.new) a.now.offset a.now.size }
+        ensures collects { CollectsAnswer P.port_view self.old self.new }
+        ensures worker { KeepsWorker (P.port_view self.old.port) (P.port_view self.new.port) }
+        ensures value { result ≡ little_endian_at (own_byte self.new) a.now.offset a.now.size }
         ensures below { result < 256 ^ a.now.size }
-        ensures sound { IsSound P.known self.new }
-        ensures hand { HasInHand P.known self.new }
-        ensures rest { P.rest self.new.port ≡ P.rest self.old.port }
+        ensures consistent { IsConsistentDevice P.port_view self.new }
+        ensures claimed_number { HasClaimedNumber P.port_view self.new }
+        ensures rest_unchanged { P.rest self.new.port ≡ P.rest self.old.port }
 
-        // Over a port that tells its state.
-        ensures told { IfSome (state_of P.known self.old) (λ d. state_of P.known self.new ≡ Some (collected d)) }
-        ensures told_value { IfSome (state_of P.known self.old) (λ d. result ≡ number_at (device_byte (collected d)) a.now.offset a.now.size) }
+        // Over a port whose state is known.
+        ensures exact { IfSome (state_of P.port_view self.old) (λ d. state_of P.port_view self.new ≡ Some (collected d)) }
+        ensures exact_value { IfSome (state_of P.port_view self.old) (λ d. result ≡ little_endian_at (device_byte (collected d)) a.now.offset a.now.size) }
     {
-        self.parts.settle();
-        self.parts.number_at(a.offset(), a.size())
+        self.parts.collect_answer();
+        self.parts.value_at(a.offset(), a.size())
     }
 
-    /// A write of the guest: an answer that stands is taken home, and then the phase table says what is done.
+    /// A write of the guest: an answer that stands is taken back, and then the phase table says what is done.
     pub fn write(&mut self, a: &Access)
         requires runs { self.old.held ≡ false }
         requires writes { IsSome a.now.write }
 
         ensures runs { self.new.held ≡ false }
-        ensures writes { Writes P.known self.old a.now self.new }
-        ensures worker { KeepsWorker (P.known self.old.port) (P.known self.new.port) }
-        ensures sound { IsSound P.known self.new }
-        ensures hand { HasInHand P.known self.new }
-        ensures rest { P.rest self.new.port ≡ P.rest self.old.port }
+        ensures writes { Writes P.port_view self.old a.now self.new }
+        ensures worker { KeepsWorker (P.port_view self.old.port) (P.port_view self.new.port) }
+        ensures consistent { IsConsistentDevice P.port_view self.new }
+        ensures claimed_number { HasClaimedNumber P.port_view self.new }
+        ensures rest_unchanged { P.rest self.new.port ≡ P.rest self.old.port }
 
-        // Over a port that tells its state.
-        ensures told { IfSome (state_of P.known self.old) (λ d. state_of P.known self.new ≡ Some (written (collected d) a.now)) }
+        // Over a port whose state is known.
+        ensures exact { IfSome (state_of P.port_view self.old) (λ d. state_of P.port_view self.new ≡ Some (written (collected d) a.now)) }
     {
-        self.parts.settle();
+        self.parts.collect_answer();
         self.parts.write(a);
     }
 
-    /// A reset of the guest: a job that nobody claimed, or an answer that stands, is taken home, and the registers and the
-    /// buffer get the reset values. The number is kept. A device that is lost, or is so once the answer is home, stays
-    /// lost.
+    /// A reset of the guest: a job that nobody claimed, or an answer that stands, is taken back, and the registers and
+    /// the buffer get the reset values. The number is kept. A device that is lost, or is so once the answer is taken,
+    /// stays lost.
     pub fn reset(&mut self) -> Result<(), NotYet>
         requires runs { self.old.held ≡ false }
 
         ensures runs { self.new.held ≡ false }
-        ensures resets { Resets P.known self.old result self.new }
-        ensures worker { KeepsWorker (P.known self.old.port) (P.known self.new.port) }
+        ensures resets { Resets P.port_view self.old result self.new }
+        ensures worker { KeepsWorker (P.port_view self.old.port) (P.port_view self.new.port) }
         ensures lost { self.old.regs.phase ≡ Phase.Lost → (result ≡ Ok tt) × (self.new ≡ self.old) }
-        ensures sound { IsSound P.known self.new }
-        ensures hand { HasInHand P.known self.new }
-        ensures rest { P.rest self.new.port ≡ P.rest self.old.port }
+        ensures consistent { IsConsistentDevice P.port_view self.new }
+        ensures claimed_number { HasClaimedNumber P.port_view self.new }
+        ensures rest_unchanged { P.rest self.new.port ≡ P.rest self.old.port }
 
-        // Over a port that tells its state.
-        ensures told { IfSome (state_of P.known self.old) (λ d. state_of P.known self.new ≡ Some (after_reset d)) }
-        ensures told_result { IfSome (state_of P.known self.old) (λ d. result ≡ reset_reply d) }
+        // Over a port whose state is known.
+        ensures exact { IfSome (state_of P.port_view self.old) (λ d. state_of P.port_view self.new ≡ Some (after_reset d)) }
+        ensures exact_result { IfSome (state_of P.port_view self.old) (λ d. result ≡ reset_reply d) }
     {
         self.parts.reset()
     }
@@ -142,15 +142,15 @@ impl<P: Port> Device<P> {
     /// The device is given up: it is lost, and stays so. Its port has to be free, so that no command is under way.
     pub fn fail(&mut self)
         requires runs { self.old.held ≡ false }
-        requires free { (P.known self.old.port).is_free ≡ true }
+        requires free { (P.port_view self.old.port).is_free ≡ true }
 
         ensures runs { self.new.held ≡ false }
         ensures failed { self.new ≡ record self.old { regs = record self.old.regs { phase = Phase.Lost } } }
-        ensures sound { IsSound P.known self.new }
-        ensures hand { HasInHand P.known self.new }
+        ensures consistent { IsConsistentDevice P.port_view self.new }
+        ensures claimed_number { HasClaimedNumber P.port_view self.new }
 
-        // Over a port that tells its state.
-        ensures told { IfSome (state_of P.known self.old) (λ d. state_of P.known self.new ≡ Some (failed d)) }
+        // Over a port whose state is known.
+        ensures exact { IfSome (state_of P.port_view self.old) (λ d. state_of P.port_view self.new ≡ Some (failed d)) }
     {
         self.parts.regs.phase = Phase::Lost;
     }
@@ -170,24 +170,24 @@ impl<P: Port> Device<P> {
     }
 
     /// The guest is stopped, for a suspension or a move: an answer that stands, or a job that nobody claimed, is taken
-    /// home, and no access is taken until the device goes on. Such a job keeps its bytes and its mark, and waits in the
+    /// back, and no access is taken until the device goes on. Such a job keeps its bytes and its mark, and waits in the
     /// device. Where the job is claimed nothing is done.
     pub fn stop(&mut self) -> Result<(), NotYet>
         requires runs { self.old.held ≡ false }
 
         ensures held { OnOk result (self.new.held ≡ true) }
         ensures runs { OnErr result (self.new.held ≡ false) }
-        ensures free { OnOk result ((P.known self.new.port).is_free ≡ true) }
-        ensures stops { Stops P.known self.old result self.new }
-        ensures worker { KeepsWorker (P.known self.old.port) (P.known self.new.port) }
-        ensures sound { IsSound P.known self.new }
-        ensures hand { HasInHand P.known self.new }
-        ensures rest { P.rest self.new.port ≡ P.rest self.old.port }
+        ensures free { OnOk result ((P.port_view self.new.port).is_free ≡ true) }
+        ensures stops { Stops P.port_view self.old result self.new }
+        ensures worker { KeepsWorker (P.port_view self.old.port) (P.port_view self.new.port) }
+        ensures consistent { IsConsistentDevice P.port_view self.new }
+        ensures claimed_number { HasClaimedNumber P.port_view self.new }
+        ensures rest_unchanged { P.rest self.new.port ≡ P.rest self.old.port }
 
-        // Over a port that tells its state.
-        ensures told_values { IfOk result (λ _. IfSome (state_of P.known self.old) (λ d. held_values self.new ≡ values_at (collected d))) }
-        ensures told_result { IfSome (state_of P.known self.old) (λ d. result ≡ reset_reply d) }
-        ensures told_busy { IfErr result (λ _. state_of P.known self.new ≡ state_of P.known self.old) }
+        // Over a port whose state is known.
+        ensures exact_values { IfOk result (λ _. IfSome (state_of P.port_view self.old) (λ d. held_values self.new ≡ values_at (collected d))) }
+        ensures exact_result { IfSome (state_of P.port_view self.old) (λ d. result ≡ reset_reply d) }
+        ensures exact_busy { IfErr result (λ _. state_of P.port_view self.new ≡ state_of P.port_view self.old) }
     {
         self.parts.stop()
     }
@@ -197,14 +197,14 @@ impl<P: Port> Device<P> {
         requires held { self.old.held ≡ true }
 
         ensures runs { self.new.held ≡ false }
-        ensures goes_on { GoesOn P.known self.old self.new }
-        ensures worker { KeepsWorker (P.known self.old.port) (P.known self.new.port) }
-        ensures sound { IsSound P.known self.new }
-        ensures hand { HasInHand P.known self.new }
-        ensures rest { P.rest self.new.port ≡ P.rest self.old.port }
+        ensures goes_on { GoesOn P.port_view self.old self.new }
+        ensures worker { KeepsWorker (P.port_view self.old.port) (P.port_view self.new.port) }
+        ensures consistent { IsConsistentDevice P.port_view self.new }
+        ensures claimed_number { HasClaimedNumber P.port_view self.new }
+        ensures rest_unchanged { P.rest self.new.port ≡ P.rest self.old.port }
 
-        // Over a port that tells its state.
-        ensures told { IfSome (state_of P.known self.new) (λ e. e ≡ device_of (held_values self.old)) }
+        // Over a port whose state is known.
+        ensures exact { IfSome (state_of P.port_view self.new) (λ e. e ≡ device_of (held_values self.old)) }
     {
         self.parts.go_on();
     }
@@ -214,8 +214,8 @@ impl<P: Port> Device<P> {
         ensures value { result ≡ self.now.held }
 
         // What the type makes sure of.
-        ensures sound { IsSound P.known self.now }
-        ensures hand { HasInHand P.known self.now }
+        ensures consistent { IsConsistentDevice P.port_view self.now }
+        ensures claimed_number { HasClaimedNumber P.port_view self.now }
     {
         self.parts.held
     }
@@ -252,7 +252,7 @@ impl<P: Port> Device<P> {
         ensures size { length result.now ≡ 3968 }
 
         // Only a lost device has values that no other can have.
-        ensures fit { is_lost self.now.regs.phase ≡ false → AreFit (held_values self.now) }
+        ensures fit { is_lost self.now.regs.phase ≡ false → AreValid (held_values self.now) }
     {
         self.parts.content()
     }
@@ -291,9 +291,9 @@ impl<P: Port> Device<P> {
           number = number;
         }) self.old }
         ensures port { self.new.port ≡ self.old.port }
-        ensures sound { IsSound P.known self.new }
-        ensures hand { HasInHand P.known self.new }
-        ensures rest { P.rest self.new.port ≡ P.rest self.old.port }
+        ensures consistent { IsConsistentDevice P.port_view self.new }
+        ensures claimed_number { HasClaimedNumber P.port_view self.new }
+        ensures rest_unchanged { P.rest self.new.port ≡ P.rest self.old.port }
     {
         self.parts.regs = Regs {
             granted,
@@ -302,22 +302,22 @@ impl<P: Port> Device<P> {
         };
         self.parts.cancelled = cancelled;
         self.parts.number = number;
-        if let Some(buf) = &mut self.parts.home {
+        if let Some(buf) = &mut self.parts.own_buffer {
             buf.hold(content);
         }
     }
 }
 
-impl<P: Port> Meanings for Device<P> {
+impl<P: Port> PortModel for Device<P> {
     ghost use Rattle.crb_machine.specs.Over.{OwnParts, own_parts};
 
-    ghost known = { λ d. P.known d.port };
+    ghost port_view = { λ d. P.port_view d.port };
 
     ghost Rest = { OwnParts × P.Rest };
 
     ghost rest = { λ d. (own_parts d, P.rest d.port) };
 
-    ghost tells = { λ d. P.tells d.port };
+    ghost state_or_looks = { λ d. P.state_or_looks d.port };
 
     ghost exact = { λ d. P.exact d.port };
 }
@@ -325,31 +325,31 @@ impl<P: Port> Meanings for Device<P> {
 impl<P: Port + WorkPort> WorkPort for Device<P> {
     /// Claims the job that waits at the device's port. A held device has none there.
     fn claim(&mut self) -> Option<Job>
-        ensures claims { Claims (P.known self.old.port) result (P.known self.new.port) }
+        ensures claims { Claims (P.port_view self.old.port) result (P.port_view self.new.port) }
         ensures held { self.old.held ≡ true → result ≡ None }
         ensures own { self.new ≡ record self.old { port = self.new.port } }
-        ensures sound { IsSound P.known self.new }
-        ensures hand { HasInHand P.known self.new }
-        ensures rest { P.rest self.new.port ≡ P.rest self.old.port }
+        ensures consistent { IsConsistentDevice P.port_view self.new }
+        ensures claimed_number { HasClaimedNumber P.port_view self.new }
+        ensures rest_unchanged { P.rest self.new.port ≡ P.rest self.old.port }
 
-        // Over a port that tells its state.
-        ensures told { IfSome (state_of P.known self.old) (λ d. IsSomeAnd (state_of P.known self.new) (λ e. TakesJob d e result)) }
+        // Over a port whose state is known.
+        ensures exact { IfSome (state_of P.port_view self.old) (λ d. IsSomeAnd (state_of P.port_view self.new) (λ e. TakesJob d e result)) }
     {
         self.parts.port.claim()
     }
 
     /// Posts the answer to the claimed job at the device's port. The guest sees it at its next access.
     fn post(&mut self, answer: Answer)
-        requires in_hand { (P.known self.old.port).in_hand ≡ Some answer.number }
+        requires claimed_number { (P.port_view self.old.port).claimed_number ≡ Some answer.number }
 
-        ensures posts { Posts (P.known self.old.port) answer (P.known self.new.port) }
+        ensures posts { Posts (P.port_view self.old.port) answer (P.port_view self.new.port) }
         ensures own { self.new ≡ record self.old { port = self.new.port } }
-        ensures sound { IsSound P.known self.new }
-        ensures hand { HasInHand P.known self.new }
-        ensures rest { P.rest self.new.port ≡ P.rest self.old.port }
+        ensures consistent { IsConsistentDevice P.port_view self.new }
+        ensures claimed_number { HasClaimedNumber P.port_view self.new }
+        ensures rest_unchanged { P.rest self.new.port ≡ P.rest self.old.port }
 
-        // Over a port that tells its state.
-        ensures told { IfSome (state_of P.known self.old) (λ d. state_of P.known self.new ≡ Some (answered answer d)) }
+        // Over a port whose state is known.
+        ensures exact { IfSome (state_of P.port_view self.old) (λ d. state_of P.port_view self.new ≡ Some (answered answer d)) }
     {
         self.parts.port.post(answer);
     }

@@ -1,11 +1,11 @@
-//! A device that is held: its guest is stopped, and its buffer is home.
+//! A device that is held: its guest is stopped, and its buffer is in the device.
 ghost use Rattle.std.specs.Prelude.{◌≡◌, true, false, length};
 ghost use Rattle.vt_base.specs.Numbers.{IsBytes};
 ghost use Rattle.crb_regs.specs.Registers.{is_lost};
 ghost use Rattle.crb_port.specs.Calls.{KeepsWorker};
-ghost use Rattle.crb_machine.specs.Values.{AreFit, held_values};
+ghost use Rattle.crb_machine.specs.Values.{AreValid, held_values};
 ghost use Rattle.crb_machine.specs.Parts.{model_of};
-ghost use Rattle.crb_machine.specs.Over.{IsSound, Stops, GoesOn, Resets};
+ghost use Rattle.crb_machine.specs.Over.{IsConsistentDevice, Stops, GoesOn, Resets};
 
 use crate::device::NotYet;
 use crate::parts::DeviceParts;
@@ -18,23 +18,23 @@ fn bytes_fit(bytes: &[u8])
 {}
 
 impl<P: Port> DeviceParts<P> {
-    /// Brings the buffer home and has the device held, unless the job is claimed. Where the buffer is home the port is
-    /// left alone.
+    /// Brings the buffer back and has the device held, unless the job is claimed. Where the buffer is in the device the
+    /// port is left alone.
     pub fn stop(&mut self) -> Result<(), NotYet>
         requires runs { self.old.held ≡ false }
-        requires sound { IsSound P.known (model_of self.old) }
-        ensures stops { Stops P.known (model_of self.old) result (model_of self.new) }
-        ensures worker { KeepsWorker (P.known self.old.port) (P.known self.new.port) }
-        ensures sound { IsSound P.known (model_of self.new) }
-        ensures rest { P.rest self.new.port ≡ P.rest self.old.port }
+        requires consistent { IsConsistentDevice P.port_view (model_of self.old) }
+        ensures stops { Stops P.port_view (model_of self.old) result (model_of self.new) }
+        ensures worker { KeepsWorker (P.port_view self.old.port) (P.port_view self.new.port) }
+        ensures consistent { IsConsistentDevice P.port_view (model_of self.new) }
+        ensures rest_unchanged { P.rest self.new.port ≡ P.rest self.old.port }
     {
-        if self.home.is_none() {
+        if self.own_buffer.is_none() {
             match self.port.pull() {
                 Pull::Job(job) => {
                     self.cancelled = job.cancelled;
-                    self.home = Some(job.buf);
+                    self.own_buffer = Some(job.buf);
                 }
-                Pull::Answer(answer) => self.take_home(answer),
+                Pull::Answer(answer) => self.take_answer(answer),
                 Pull::Busy => {
                     return Err(NotYet {
                         number: self.number,
@@ -50,12 +50,12 @@ impl<P: Port> DeviceParts<P> {
     /// A reset of the guest: a stop, and then the reset values. The device isn't held any more.
     pub fn reset(&mut self) -> Result<(), NotYet>
         requires runs { self.old.held ≡ false }
-        requires sound { IsSound P.known (model_of self.old) }
+        requires consistent { IsConsistentDevice P.port_view (model_of self.old) }
         ensures runs { self.new.held ≡ false }
-        ensures resets { Resets P.known (model_of self.old) result (model_of self.new) }
-        ensures worker { KeepsWorker (P.known self.old.port) (P.known self.new.port) }
-        ensures sound { IsSound P.known (model_of self.new) }
-        ensures rest { P.rest self.new.port ≡ P.rest self.old.port }
+        ensures resets { Resets P.port_view (model_of self.old) result (model_of self.new) }
+        ensures worker { KeepsWorker (P.port_view self.old.port) (P.port_view self.new.port) }
+        ensures consistent { IsConsistentDevice P.port_view (model_of self.new) }
+        ensures rest_unchanged { P.rest self.new.port ≡ P.rest self.old.port }
     {
         self.stop()?;
         self.held = false;
@@ -64,7 +64,7 @@ impl<P: Port> DeviceParts<P> {
             return Ok(());
         }
         self.regs = Regs::reset();
-        if let Some(buf) = &mut self.home {
+        if let Some(buf) = &mut self.own_buffer {
             buf.clear();
         }
         Ok(())
@@ -73,17 +73,17 @@ impl<P: Port> DeviceParts<P> {
     /// Lets the held device go on: where a command is executed its job waits again.
     pub fn go_on(&mut self)
         requires held { self.old.held ≡ true }
-        requires sound { IsSound P.known (model_of self.old) }
-        ensures goes_on { GoesOn P.known (model_of self.old) (model_of self.new) }
-        ensures worker { KeepsWorker (P.known self.old.port) (P.known self.new.port) }
-        ensures sound { IsSound P.known (model_of self.new) }
-        ensures rest { P.rest self.new.port ≡ P.rest self.old.port }
+        requires consistent { IsConsistentDevice P.port_view (model_of self.old) }
+        ensures goes_on { GoesOn P.port_view (model_of self.old) (model_of self.new) }
+        ensures worker { KeepsWorker (P.port_view self.old.port) (P.port_view self.new.port) }
+        ensures consistent { IsConsistentDevice P.port_view (model_of self.new) }
+        ensures rest_unchanged { P.rest self.new.port ≡ P.rest self.old.port }
     {
         let cancelled = self.cancelled;
         self.held = false;
         self.cancelled = false;
         if let Phase::Execution = self.regs.phase
-            && let Some(buf) = self.home.take()
+            && let Some(buf) = self.own_buffer.take()
         {
             self.port.queue(Job {
                 number: self.number,
@@ -96,14 +96,14 @@ impl<P: Port> DeviceParts<P> {
     /// All bytes of the held device's buffer.
     pub fn content(&self) -> &[u8]
         requires held { self.now.held ≡ true }
-        requires sound { IsSound P.known (model_of self.now) }
+        requires consistent { IsConsistentDevice P.port_view (model_of self.now) }
         ensures value { result.now ≡ (held_values (model_of self.now)).content }
         ensures size { length result.now ≡ 3968 }
-        ensures fit { is_lost self.now.regs.phase ≡ false → AreFit (held_values (model_of self.now)) }
+        ensures fit { is_lost self.now.regs.phase ≡ false → AreValid (held_values (model_of self.now)) }
     {
         // Read for the range of its type.
         let _number = self.number;
-        let Some(buf) = &self.home else {
+        let Some(buf) = &self.own_buffer else {
             unreachable!()
         };
         let bytes = buf.bytes();

@@ -1,25 +1,25 @@
 //! Laws of the values of a device.
 ghost use Rattle.std.specs.Prelude.{◌≡◌, true, false, Ok, Err, Some, IfSome};
 ghost use Rattle.crb_machine.specs.State.{DeviceState};
-ghost use Rattle.crb_machine.specs.Values.{DeviceValues, AreFit, IsUnclaimed, values_at, device_of};
+ghost use Rattle.crb_machine.specs.Values.{DeviceValues, AreValid, IsUnclaimed, values_at, device_of};
 ghost use Rattle.crb_machine.specs.Steps.{collected};
 ghost use Rattle.crb_machine.specs.Values.{held_values};
-ghost use Rattle.crb_machine.specs.Over.{IsSound, Stops, GoesOn, state_of};
+ghost use Rattle.crb_machine.specs.Over.{IsConsistentDevice, Stops, GoesOn, state_of};
 ghost use Rattle.crb_machine.specs.Model.{DeviceModel};
 ghost use Rattle.crb_machine.specs.declared.device.NotYet.{NotYet};
 
 use crb_port::Port;
 
-/// A device whose job isn't claimed is told by its values, and the values by the device.
+/// A device whose job isn't claimed is determined by its values, and the values by the device.
 pub fn held_devices_go_on()
     ensures device { (d : DeviceState) → IsUnclaimed d → device_of (values_at d) ≡ d }
-    ensures values { (v : DeviceValues) → AreFit v → values_at (device_of v) ≡ v }
+    ensures values { (v : DeviceValues) → AreValid v → values_at (device_of v) ≡ v }
 {}
 
-/// A device over a port that tells its state: what a stop leaves of it, and how it goes on behind one.
+/// A device over a port whose state is known: what a stop leaves of it, and how it goes on behind one.
 pub fn stopped_devices_go_on<P: Port>()
-    ensures stopped { (d e : DeviceModel P) → IsSound P.known d → d.held ≡ false → Stops P.known d (Ok tt) e → IfSome (state_of P.known d) (λ s. held_values e ≡ values_at (collected s)) }
-    ensures busy { (d e : DeviceModel P) (f : NotYet) → Stops P.known d (Err f) e → state_of P.known e ≡ state_of P.known d }
-    ensures goes_on { (d e : DeviceModel P) → IsSound P.known d → d.held ≡ true → GoesOn P.known d e → IfSome (state_of P.known e) (λ s. s ≡ device_of (held_values d)) }
-    ensures same { (d e f : DeviceModel P) → IsSound P.known d → d.held ≡ false → Stops P.known d (Ok tt) e → GoesOn P.known e f → IfSome (state_of P.known d) (λ s. state_of P.known f ≡ Some (collected s)) }
+    ensures stopped { (d e : DeviceModel P) → IsConsistentDevice P.port_view d → d.held ≡ false → Stops P.port_view d (Ok tt) e → IfSome (state_of P.port_view d) (λ s. held_values e ≡ values_at (collected s)) }
+    ensures busy { (d e : DeviceModel P) (f : NotYet) → Stops P.port_view d (Err f) e → state_of P.port_view e ≡ state_of P.port_view d }
+    ensures goes_on { (d e : DeviceModel P) → IsConsistentDevice P.port_view d → d.held ≡ true → GoesOn P.port_view d e → IfSome (state_of P.port_view e) (λ s. s ≡ device_of (held_values d)) }
+    ensures same { (d e f : DeviceModel P) → IsConsistentDevice P.port_view d → d.held ≡ false → Stops P.port_view d (Ok tt) e → GoesOn P.port_view e f → IfSome (state_of P.port_view d) (λ s. state_of P.port_view f ≡ Some (collected s)) }
 {}

@@ -5,7 +5,7 @@
 //! access. Over a port that is both ends, the device is itself the worker's end. The device knows no TPM: what the answer
 //! holds is the worker's.
 //!
-//! For a suspension or a move the device is stopped: held, it has its buffer home, tells its values and can be given
+//! For a suspension or a move the device is stopped: held, it has its buffer, gives its values and can be given
 //! others. A command that nobody claimed waits in it, and is queued again when the device goes on.
 #![tactic(auto)]
 

@@ -1,12 +1,12 @@
 //! The parts of a device, and what each access does to them.
 ghost use Rattle.std.specs.Prelude.{◌≡◌, ◌+◌, ◌*◌, ◌^◌, ◌<◌, ◌≤◌, false, Some, IsSome, IfSome};
-ghost use Rattle.crb_regs.specs.LittleEndian.{number_at};
+ghost use Rattle.crb_regs.specs.LittleEndian.{little_endian_at};
 ghost use Rattle.crb_regs.specs.Effects.{effect as effect_of};
 ghost use Rattle.crb_port.specs.Calls.{KeepsWorker};
 ghost use Rattle.crb_machine.specs.Phases.{next_phase as phase_next};
 ghost use Rattle.crb_machine.specs.Steps.{ended_phase, written, written_to};
 ghost use Rattle.crb_machine.specs.Parts.{model_of};
-ghost use Rattle.crb_machine.specs.Over.{IsSound, Settles, Acts, WritesTo, own_byte, state_of, with_answer};
+ghost use Rattle.crb_machine.specs.Over.{IsConsistentDevice, CollectsAnswer, Acts, WritesTo, own_byte, state_of, with_answer};
 
 use crate::bytes::overwrite;
 use crate::phases::next_phase;
@@ -14,13 +14,14 @@ use crb_port::{Answer, Job, Outcome, Port};
 use crb_regs::{Access, DATA_BUFFER, Effect, Phase, Regs, decode};
 use vt_base::Buf;
 
-/// What a device over a port is made of: the registers, the number of the last job, the buffer where it is home, whether
-/// the device is held, whether the job of a held device is cancelled that waits until it goes on, and the port.
+/// What a device over a port is made of: the registers, the number of the last job, the buffer where it is in the
+/// device, whether the device is held, whether the job of a held device is cancelled that waits until it goes on, and
+/// the port.
 #[derive(Debug, Drop)]
 pub struct DeviceParts<P> {
     pub regs: Regs,
     pub number: u64,
-    pub home: Option<Buf>,
+    pub own_buffer: Option<Buf>,
     pub held: bool,
     pub cancelled: bool,
     pub port: P,
@@ -37,43 +38,43 @@ fn phase_at_end(outcome: Outcome) -> Phase
 }
 
 impl<P: Port> DeviceParts<P> {
-    /// Takes an answer home, which ends the execution.
-    pub fn take_home(&mut self, answer: Answer)
+    /// Takes an answer back, which ends the execution.
+    pub fn take_answer(&mut self, answer: Answer)
         ensures { model_of self.new ≡ with_answer answer (model_of self.old) self.old.port }
     {
         self.regs.phase = phase_at_end(answer.outcome);
-        self.home = Some(answer.buf);
+        self.own_buffer = Some(answer.buf);
     }
 
-    /// Takes home an answer that stands. While the buffer is home none can, and the port is left alone.
-    pub fn settle(&mut self)
+    /// Takes an answer that stands in the port. While the buffer is in the device none can, and the port is left alone.
+    pub fn collect_answer(&mut self)
         requires runs { self.old.held ≡ false }
-        requires sound { IsSound P.known (model_of self.old) }
+        requires consistent { IsConsistentDevice P.port_view (model_of self.old) }
         ensures runs { self.new.held ≡ false }
-        ensures settles { Settles P.known (model_of self.old) (model_of self.new) }
-        ensures worker { KeepsWorker (P.known self.old.port) (P.known self.new.port) }
-        ensures sound { IsSound P.known (model_of self.new) }
-        ensures rest { P.rest self.new.port ≡ P.rest self.old.port }
+        ensures collects { CollectsAnswer P.port_view (model_of self.old) (model_of self.new) }
+        ensures worker { KeepsWorker (P.port_view self.old.port) (P.port_view self.new.port) }
+        ensures consistent { IsConsistentDevice P.port_view (model_of self.new) }
+        ensures rest_unchanged { P.rest self.new.port ≡ P.rest self.old.port }
     {
-        if self.home.is_some() {
+        if self.own_buffer.is_some() {
             return;
         }
         if let Some(answer) = self.port.collect() {
-            self.take_home(answer);
+            self.take_answer(answer);
         }
     }
 
     // The byte of the page at an offset.
     fn byte(&self, offset: u32) -> u8
         requires offset { offset < 0x1000 }
-        requires sound { IsSound P.known (model_of self.now) }
+        requires consistent { IsConsistentDevice P.port_view (model_of self.now) }
         ensures { result ≡ own_byte (model_of self.now) offset }
     {
         if offset < DATA_BUFFER {
             return self.regs.byte(offset);
         }
         match self.regs.phase {
-            Phase::Ready | Phase::Reception | Phase::Completion => match &self.home {
+            Phase::Ready | Phase::Reception | Phase::Completion => match &self.own_buffer {
                 Some(buf) => buf.get((offset - DATA_BUFFER) as usize),
                 None => 0xFF,
             },
@@ -82,49 +83,49 @@ impl<P: Port> DeviceParts<P> {
     }
 
     /// The little-endian number of so many bytes.
-    pub fn number_at(&self, offset: u32, size: u8) -> u64
+    pub fn value_at(&self, offset: u32, size: u8) -> u64
         requires size { size ≤ 8 }
         requires place { offset + size ≤ 0x1000 }
-        requires sound { IsSound P.known (model_of self.now) }
-        ensures value { result ≡ number_at (own_byte (model_of self.now)) offset size }
+        requires consistent { IsConsistentDevice P.port_view (model_of self.now) }
+        ensures value { result ≡ little_endian_at (own_byte (model_of self.now)) offset size }
         ensures below { result < 256 ^ size }
     {
         if size == 0 {
             return 0;
         }
-        let rest = self.number_at(offset + 1, size - 1);
+        let rest = self.value_at(offset + 1, size - 1);
         u64::from(self.byte(offset)) + 256 * rest
     }
 
     // What an accepted write of this effect does.
-    fn act(&mut self, effect: Effect, phase: Phase, a: &Access)
+    fn apply_effect(&mut self, effect: Effect, phase: Phase, a: &Access)
         requires runs { self.old.held ≡ false }
         requires write { IsSome a.now.write }
         requires in_buffer { effect ≡ Effect.Buffer → 0x80 ≤ a.now.offset }
         requires accepted { phase_next effect self.old.regs.granted self.old.regs.phase ≡ Some phase }
-        requires sound { IsSound P.known (model_of self.old) }
+        requires consistent { IsConsistentDevice P.port_view (model_of self.old) }
         ensures runs { self.new.held ≡ false }
-        ensures acts { Acts P.known (Some phase) effect a.now (model_of self.old) (model_of self.new) }
-        ensures told { IfSome (state_of P.known (model_of self.old)) (λ d. state_of P.known (model_of self.new) ≡ Some (written_to (Some phase) effect a.now d)) }
-        ensures worker { KeepsWorker (P.known self.old.port) (P.known self.new.port) }
-        ensures sound { IsSound P.known (model_of self.new) }
-        ensures rest { P.rest self.new.port ≡ P.rest self.old.port }
+        ensures acts { Acts P.port_view (Some phase) effect a.now (model_of self.old) (model_of self.new) }
+        ensures exact { IfSome (state_of P.port_view (model_of self.old)) (λ d. state_of P.port_view (model_of self.new) ≡ Some (written_to (Some phase) effect a.now d)) }
+        ensures worker { KeepsWorker (P.port_view self.old.port) (P.port_view self.new.port) }
+        ensures consistent { IsConsistentDevice P.port_view (model_of self.new) }
+        ensures rest_unchanged { P.rest self.new.port ≡ P.rest self.old.port }
     {
         self.regs.phase = phase;
         match effect {
             Effect::Buffer => {
-                if let Some(buf) = &mut self.home {
+                if let Some(buf) = &mut self.own_buffer {
                     let at = a.offset() - DATA_BUFFER;
                     overwrite(buf, at as usize, a.size(), a.write().unwrap_or(0));
                 }
             }
             Effect::CmdReady | Effect::GoIdle => {
-                if let Some(buf) = &mut self.home {
+                if let Some(buf) = &mut self.own_buffer {
                     buf.clear();
                 }
             }
             Effect::Start => {
-                if let Some(buf) = self.home.take() {
+                if let Some(buf) = self.own_buffer.take() {
                     self.number = self.number.wrapping_add(1);
                     self.port.queue(Job {
                         number: self.number,
@@ -135,7 +136,7 @@ impl<P: Port> DeviceParts<P> {
             }
             Effect::Cancel(value) => {
                 self.regs.cancel = value;
-                if value && self.home.is_none() {
+                if value && self.own_buffer.is_none() {
                     self.port.cancel();
                 }
             }
@@ -145,21 +146,21 @@ impl<P: Port> DeviceParts<P> {
         }
     }
 
-    /// A write of the guest, once an answer that stood is home.
+    /// A write of the guest, once an answer that stood is taken.
     pub fn write(&mut self, a: &Access)
         requires runs { self.old.held ≡ false }
         requires write { IsSome a.now.write }
-        requires sound { IsSound P.known (model_of self.old) }
+        requires consistent { IsConsistentDevice P.port_view (model_of self.old) }
         ensures runs { self.new.held ≡ false }
-        ensures writes { WritesTo P.known (model_of self.old) a.now (model_of self.new) }
-        ensures told { IfSome (state_of P.known (model_of self.old)) (λ d. state_of P.known (model_of self.new) ≡ Some (written d a.now)) }
-        ensures worker { KeepsWorker (P.known self.old.port) (P.known self.new.port) }
-        ensures sound { IsSound P.known (model_of self.new) }
-        ensures rest { P.rest self.new.port ≡ P.rest self.old.port }
+        ensures writes { WritesTo P.port_view (model_of self.old) a.now (model_of self.new) }
+        ensures exact { IfSome (state_of P.port_view (model_of self.old)) (λ d. state_of P.port_view (model_of self.new) ≡ Some (written d a.now)) }
+        ensures worker { KeepsWorker (P.port_view self.old.port) (P.port_view self.new.port) }
+        ensures consistent { IsConsistentDevice P.port_view (model_of self.new) }
+        ensures rest_unchanged { P.rest self.new.port ≡ P.rest self.old.port }
     {
         let effect = decode(a);
         if let Some(phase) = next_phase(effect, self.regs.granted, self.regs.phase) {
-            self.act(effect, phase, a);
+            self.apply_effect(effect, phase, a);
         }
     }
 }

@@ -1,3 +1,3 @@
-pub mod Known
+pub mod Views
 pub mod Calls
 pub mod Plain

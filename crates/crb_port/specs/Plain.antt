@@ -1,15 +1,15 @@
 -- What a contract sees of a `PlainPort`. (Own definitions.)
 use Rattle.std.specs.Prelude.{refl, [], Some, None}
-use Rattle.crb_port.specs.Known.{Known, is_nothing, hand_of, IsExact}
-use Rattle.crb_port.specs.declared.job.Standing.{Standing}
+use Rattle.crb_port.specs.Views.{PortView, is_nothing, claimed_number_in, IsExact}
+use Rattle.crb_port.specs.declared.job.PortState.{PortState}
 
--- it tells all that stands in it, and no lists
-abbrev pub plain : Standing → Known
-plain standing = record {
+-- its state is known, and it has no lists
+abbrev pub plain : PortState → PortView
+plain port_state = record {
   which = [];
-  is_free = is_nothing standing;
-  in_hand = hand_of standing;
-  state = Some standing;
+  is_free = is_nothing port_state;
+  claimed_number = claimed_number_in port_state;
+  state = Some port_state;
   looks = None;
   queued = None;
   collected = None;
@@ -17,5 +17,5 @@ plain standing = record {
   posted = None;
 }
 
-pub plain_is_exact : (standing : Standing) → IsExact (plain standing)
-plain_is_exact standing = (refl, refl)
+pub plain_is_exact : (port_state : PortState) → IsExact (plain port_state)
+plain_is_exact port_state = (refl, refl)

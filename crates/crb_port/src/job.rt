@@ -28,7 +28,7 @@ pub struct Answer {
     pub buf: Buf,
 }
 
-/// What a pull brings home.
+/// What a pull brings back.
 #[derive(Debug, Drop)]
 pub enum Pull {
     /// Nothing: the port was free.
@@ -43,7 +43,7 @@ pub enum Pull {
 
 /// What stands in a port.
 #[derive(Debug, Drop)]
-pub enum Standing {
+pub enum PortState {
     /// Nothing: the port is free.
     Nothing,
     /// A job that nobody has claimed.
@@ -56,7 +56,7 @@ pub enum Standing {
 
 /// What one step of a call can find at a port.
 #[derive(Clone, Copy, Debug, PartialEq, Eq)]
-pub enum Stage {
+pub enum PortStage {
     /// Nothing stands.
     Free,
     /// A job waits, and isn't cancelled.

@@ -6,6 +6,6 @@ abbrev pub byte_of : ℕ → ℕ → ℕ
 byte_of n k = n / 256 ^ k % 256
 
 -- the number of so many bytes from a place on
-abbrev pub number_at : (ℕ → ℕ) → ℕ → ℕ → ℕ
-number_at byte at zero = 0
-number_at byte at (suc size) = byte at + 256 * number_at byte (at + 1) size
+abbrev pub little_endian_at : (ℕ → ℕ) → ℕ → ℕ → ℕ
+little_endian_at byte at zero = 0
+little_endian_at byte at (suc size) = byte at + 256 * little_endian_at byte (at + 1) size

@@ -3,7 +3,7 @@
 use Rattle.std.specs.Prelude.{Bool, ◌&&◌, nat_le, ℕ, List}
 use Rattle.std.specs.Str.{bytes_eq}
 use Rattle.std.specs.Int.{w16}
-use Rattle.tpm_frame.specs.Frame.{number_at, short, is_response_tag}
+use Rattle.tpm_frame.specs.Frame.{big_endian_at, short, is_response_tag}
 use Rattle.tpm_frame.specs.Sizes.{named_size}
 use Rattle.crb_worker.specs.Numbers.{header_size, largest_response, canceled}
 
@@ -13,7 +13,7 @@ is_response_size size = nat_le header_size size && nat_le size largest_response
 
 -- these bytes are the header of a response
 abbrev pub is_head : List ℕ → Bool
-is_head head = is_response_tag (number_at w16 0 head) && is_response_size (named_size head)
+is_head head = is_response_tag (big_endian_at w16 0 head) && is_response_size (named_size head)
 
 -- the response is that to a command that was cancelled
 abbrev pub is_cancelled : List ℕ → Bool

@@ -1,6 +1,6 @@
 pub mod Numbers
 pub mod Heads
 pub mod Progress
-pub mod Seen
-pub mod Works
+pub mod Wires
+pub mod Steps
 pub mod Runs

@@ -1,13 +1,13 @@
 -- Runs of one worker: its steps one after the other, whatever the port and the wires do between them. (Own definitions.)
 use Rattle.std.specs.Prelude.{◌≡◌, ℕ, Bool, true, false, List, [], ◌∷◌, ◌++◌, if◌then◌else◌, ◌⊎◌, count_by}
 use Rattle.tpm_frame.specs.Frames.{first_frame}
-use Rattle.crb_port.specs.Known.{Known}
+use Rattle.crb_port.specs.Views.{PortView}
 use Rattle.crb_worker.specs.declared.progress.Progress.{Progress}
 use Rattle.crb_worker.specs.declared.progress.Progress.TheVariants as progress
 use Rattle.crb_worker.specs.declared.progress.Step.{Step}
 use Rattle.crb_worker.specs.declared.progress.Step.TheVariants.{Claim, Sent}
-use Rattle.crb_worker.specs.Seen.{Seen, Sends, Receives}
-use Rattle.crb_worker.specs.Works.{Works}
+use Rattle.crb_worker.specs.Wires.{WorkerWires, SendsCommand, Receives}
+use Rattle.crb_worker.specs.Steps.{WorkerStep}
 
 -- the commands that a step sends, whether the wires take them or not: that of a claimed job, unless it is cancelled
 abbrev pub sent_with : Progress → List (List ℕ)
@@ -16,9 +16,9 @@ sent_with _ = []
 
 -- These commands were sent and no others: none, where the wires weren't touched or bytes of a response were received, or
 -- one in one send.
-abbrev pub SendsThese : {Plan : Type 0} → List (List ℕ) → Seen Plan → Seen Plan → Type 0
+abbrev pub SendsThese : {Schedule : Type 0} → List (List ℕ) → WorkerWires Schedule → WorkerWires Schedule → Type 0
 SendsThese [] w v = (v ≡ w) ⊎ ((ok : Bool) × (count : ℕ) × Receives ok count w v)
-SendsThese (command ∷ []) w v = (ok : Bool) × Sends ok command w v
+SendsThese (command ∷ []) w v = (ok : Bool) × SendsCommand ok command w v
 SendsThese (command ∷ second ∷ more) w v = ⊥
 
 -- one step: its answer, and the commands that it sent
@@ -28,12 +28,12 @@ pub record Moment : Type 0 where
 
 -- with this progress a step can have this answer and leave that progress
 abbrev pub StepsTo : Type 0 → Progress → Step → Progress → Type 0
-StepsTo Plan p step q = (k l : Known) × (w v : Seen Plan) × Works p k w step q l v
+StepsTo Schedule p step q = (k l : PortView) × (w v : WorkerWires Schedule) × WorkerStep p k w step q l v
 
 -- the steps of one worker, each from where the one before it ended
 abbrev pub Runs : Type 0 → Progress → List Moment → Progress → Type 0
-Runs Plan p [] q = q ≡ p
-Runs Plan p (m ∷ moments) q = (next : Progress) × (m.sent ≡ sent_with p) × StepsTo Plan p m.step next × Runs Plan next moments q
+Runs Schedule p [] q = q ≡ p
+Runs Schedule p (m ∷ moments) q = (next : Progress) × (m.sent ≡ sent_with p) × StepsTo Schedule p m.step next × Runs Schedule next moments q
 
 -- a job was claimed
 abbrev pub is_claim : Step → Bool

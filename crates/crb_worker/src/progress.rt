@@ -12,7 +12,7 @@ pub enum Progress {
     /// Its command was sent.
     Sent(Job),
     /// The header of its response was received.
-    Run(Job, [u8; HEADER_SIZE]),
+    HeaderReceived(Job, [u8; HEADER_SIZE]),
 }
 
 /// What one step did, with the number of the job.

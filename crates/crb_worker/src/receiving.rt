@@ -1,22 +1,22 @@
 //! Responses as they come off the wires.
 ghost use Rattle.std.specs.Prelude.{◌≡◌, ◌<◌, length, true, false, IfOk, OnOk, OnErr};
 ghost use Rattle.std.specs.Int.{w16};
-ghost use Rattle.tpm_frame.specs.Frame.{number_at};
+ghost use Rattle.tpm_frame.specs.Frame.{big_endian_at};
 ghost use Rattle.tpm_frame.specs.Sizes.{named_size};
 ghost use Rattle.crb_worker.specs.Heads.{is_head as IsHead, is_cancelled};
-ghost use Rattle.crb_worker.specs.Seen.{Receives, AreNext, wires_seen};
-ghost use Rattle.crb_worker.specs.Works.{HoldsResponse, is_longer, left_of};
+ghost use Rattle.crb_worker.specs.Wires.{Receives, AreNext, worker_wires};
+ghost use Rattle.crb_worker.specs.Steps.{HoldsResponse, is_longer, left_of};
 
-use ctrl_client::{Wires, receive_whole};
+use ctrl_client::{Wires, receive_exact};
 use tpm_frame::{CANCELED, HEADER_SIZE, LARGEST_FRAME, NO_SESSIONS, RSP_COMMAND, SESSIONS};
-use vt_base::{Buf, Chan, Failed, Held};
+use vt_base::{Buf, ByteBuf, Chan, Failed};
 
 /// How many bytes of a response follow its header at most.
 const LONGEST_REST: usize = LARGEST_FRAME - HEADER_SIZE;
 
 // The tag in a header.
 fn tag_of(head: &[u8; HEADER_SIZE]) -> u16
-    ensures { result ≡ number_at w16 0 head.now }
+    ensures { result ≡ big_endian_at w16 0 head.now }
 {
     u16::from_be_bytes([head[0], head[1]])
 }
@@ -53,29 +53,29 @@ fn is_cancelled(response: &[u8]) -> bool
 fn receive<W: Wires>(wires: &mut W, into: &mut [u8]) -> Result<(), Failed>
     requires some { 0 < length into.old }
     ensures next { OnOk result (AreNext into.new (length into.old)
-        (wires_seen W.fails W.later (W.link wires.old) (W.plan wires.old) (W.faults wires.old) (W.traffic wires.old))
-        (wires_seen W.fails W.later (W.link wires.new) (W.plan wires.new) (W.faults wires.new) (W.traffic wires.new))) }
+        (worker_wires W.fails W.later (W.link wires.old) (W.schedule wires.old) (W.faults wires.old) (W.traffic wires.old))
+        (worker_wires W.fails W.later (W.link wires.new) (W.schedule wires.new) (W.faults wires.new) (W.traffic wires.new))) }
     ensures ok { OnOk result (Receives true (length into.old)
-        (wires_seen W.fails W.later (W.link wires.old) (W.plan wires.old) (W.faults wires.old) (W.traffic wires.old))
-        (wires_seen W.fails W.later (W.link wires.new) (W.plan wires.new) (W.faults wires.new) (W.traffic wires.new))) }
+        (worker_wires W.fails W.later (W.link wires.old) (W.schedule wires.old) (W.faults wires.old) (W.traffic wires.old))
+        (worker_wires W.fails W.later (W.link wires.new) (W.schedule wires.new) (W.faults wires.new) (W.traffic wires.new))) }
     ensures err { OnErr result (Receives false (length into.old)
-        (wires_seen W.fails W.later (W.link wires.old) (W.plan wires.old) (W.faults wires.old) (W.traffic wires.old))
-        (wires_seen W.fails W.later (W.link wires.new) (W.plan wires.new) (W.faults wires.new) (W.traffic wires.new))) }
+        (worker_wires W.fails W.later (W.link wires.old) (W.schedule wires.old) (W.faults wires.old) (W.traffic wires.old))
+        (worker_wires W.fails W.later (W.link wires.new) (W.schedule wires.new) (W.faults wires.new) (W.traffic wires.new))) }
 {
-    receive_whole(wires, Chan::Data, into)
+    receive_exact(wires, Chan::Data, into)
 }
 
 /// Receives ten bytes, where a response begins.
 pub fn receive_head<W: Wires>(wires: &mut W) -> Result<[u8; HEADER_SIZE], Failed>
     ensures next { IfOk result (λ head. AreNext head HEADER_SIZE
-        (wires_seen W.fails W.later (W.link wires.old) (W.plan wires.old) (W.faults wires.old) (W.traffic wires.old))
-        (wires_seen W.fails W.later (W.link wires.new) (W.plan wires.new) (W.faults wires.new) (W.traffic wires.new))) }
+        (worker_wires W.fails W.later (W.link wires.old) (W.schedule wires.old) (W.faults wires.old) (W.traffic wires.old))
+        (worker_wires W.fails W.later (W.link wires.new) (W.schedule wires.new) (W.faults wires.new) (W.traffic wires.new))) }
     ensures ok { OnOk result (Receives true HEADER_SIZE
-        (wires_seen W.fails W.later (W.link wires.old) (W.plan wires.old) (W.faults wires.old) (W.traffic wires.old))
-        (wires_seen W.fails W.later (W.link wires.new) (W.plan wires.new) (W.faults wires.new) (W.traffic wires.new))) }
+        (worker_wires W.fails W.later (W.link wires.old) (W.schedule wires.old) (W.faults wires.old) (W.traffic wires.old))
+        (worker_wires W.fails W.later (W.link wires.new) (W.schedule wires.new) (W.faults wires.new) (W.traffic wires.new))) }
     ensures err { OnErr result (Receives false HEADER_SIZE
-        (wires_seen W.fails W.later (W.link wires.old) (W.plan wires.old) (W.faults wires.old) (W.traffic wires.old))
-        (wires_seen W.fails W.later (W.link wires.new) (W.plan wires.new) (W.faults wires.new) (W.traffic wires.new))) }
+        (worker_wires W.fails W.later (W.link wires.old) (W.schedule wires.old) (W.faults wires.old) (W.traffic wires.old))
+        (worker_wires W.fails W.later (W.link wires.new) (W.schedule wires.new) (W.faults wires.new) (W.traffic wires.new))) }
 {
     let mut head = [0; HEADER_SIZE];
     receive(wires, &mut head)?;
@@ -90,12 +90,12 @@ pub fn hold_response<W: Wires>(
     wires: &mut W,
 ) -> Result<bool, Failed>
     requires head { IsHead head.now ≡ true }
-    ensures ok { let before = wires_seen W.fails W.later (W.link wires.old) (W.plan wires.old) (W.faults wires.old) (W.traffic wires.old) in
-        let after = wires_seen W.fails W.later (W.link wires.new) (W.plan wires.new) (W.faults wires.new) (W.traffic wires.new) in
+    ensures ok { let before = worker_wires W.fails W.later (W.link wires.old) (W.schedule wires.old) (W.faults wires.old) (W.traffic wires.old) in
+        let after = worker_wires W.fails W.later (W.link wires.new) (W.schedule wires.new) (W.faults wires.new) (W.traffic wires.new) in
         IfOk result (λ cancelled. HoldsResponse head.now cancelled buf.new before after) }
     ensures err { OnErr result (Receives false (left_of head.now)
-        (wires_seen W.fails W.later (W.link wires.old) (W.plan wires.old) (W.faults wires.old) (W.traffic wires.old))
-        (wires_seen W.fails W.later (W.link wires.new) (W.plan wires.new) (W.faults wires.new) (W.traffic wires.new))) }
+        (worker_wires W.fails W.later (W.link wires.old) (W.schedule wires.old) (W.faults wires.old) (W.traffic wires.old))
+        (worker_wires W.fails W.later (W.link wires.new) (W.schedule wires.new) (W.faults wires.new) (W.traffic wires.new))) }
     ensures longer { OnErr result (is_longer head.now ≡ true) }
     ensures kept { OnErr result (buf.new ≡ buf.old) }
     ensures untouched { is_longer head.now ≡ false → wires.new ≡ wires.old }
@@ -108,7 +108,7 @@ pub fn hold_response<W: Wires>(
     let mut room = [0; LONGEST_REST];
     let rest = &mut room[..size - HEADER_SIZE];
     receive(wires, rest)?;
-    let mut response = Held::<LARGEST_FRAME>::new();
+    let mut response = ByteBuf::<LARGEST_FRAME>::new();
     response.push(head);
     response.push(rest);
     buf.hold(response.as_slice());

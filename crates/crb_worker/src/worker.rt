@@ -3,9 +3,9 @@ ghost use Rattle.std.specs.Prelude.{◌≡◌, Some, None, true, false};
 ghost use Rattle.tpm_frame.specs.Frame.{short};
 ghost use Rattle.crb_port.specs.Calls.{Posts};
 ghost use Rattle.crb_worker.specs.Heads.{is_head as IsHead};
-ghost use Rattle.crb_worker.specs.Progress.{HasClaimed, number_in_hand, holds_head, calls_wires};
-ghost use Rattle.crb_worker.specs.Seen.{wires_seen};
-ghost use Rattle.crb_worker.specs.Works.{Works, WithoutJob, WithClaimed, WithSent, WithRun, answered, is_longer, lost};
+ghost use Rattle.crb_worker.specs.Progress.{HasClaimed, claimed_number_of, holds_head, calls_wires};
+ghost use Rattle.crb_worker.specs.Wires.{worker_wires};
+ghost use Rattle.crb_worker.specs.Steps.{WorkerStep, WithoutJob, WithClaimed, WithSent, WithHeader, answered, is_longer, lost};
 
 use crate::progress::{Progress, Step};
 use crate::receiving::{hold_response, is_head, receive_head};
@@ -44,39 +44,40 @@ impl Worker {
         }
     }
 
-    /// Takes the job in hand one step further, or claims one. A job in hand needs the end of the port that claimed it and
-    /// hasn't posted its answer; without one any port serves, and where another's job is claimed none is. No memory is taken: the job's buffer goes back with the answer.
+    /// Takes the claimed job one step further, or claims one. A claimed job needs the end of the port that claimed it
+    /// and hasn't posted its answer; without one any port serves, and where another's job is claimed none is. No memory
+    /// is taken: the job's buffer goes back with the answer.
     pub fn step<P: WorkPort, W: Wires>(&mut self, port: &mut P, wires: &mut W) -> Step
-        requires in_hand { HasClaimed self.old (P.known port.old) }
-        ensures works { let before = wires_seen W.fails W.later (W.link wires.old) (W.plan wires.old) (W.faults wires.old) (W.traffic wires.old) in
-            let after = wires_seen W.fails W.later (W.link wires.new) (W.plan wires.new) (W.faults wires.new) (W.traffic wires.new) in
-            Works self.old (P.known port.old) before result self.new (P.known port.new) after }
+        requires claimed_number { HasClaimed self.old (P.port_view port.old) }
+        ensures works { let before = worker_wires W.fails W.later (W.link wires.old) (W.schedule wires.old) (W.faults wires.old) (W.traffic wires.old) in
+            let after = worker_wires W.fails W.later (W.link wires.new) (W.schedule wires.new) (W.faults wires.new) (W.traffic wires.new) in
+            WorkerStep self.old (P.port_view port.old) before result self.new (P.port_view port.new) after }
 
         // Where there is nothing to send or to receive, the wires aren't touched.
         ensures untouched { calls_wires self.old ≡ false → wires.new ≡ wires.old }
 
         // What the next step needs.
-        ensures next { HasClaimed self.new (P.known port.new) }
-        ensures hand { (P.known port.old).in_hand ≡ number_in_hand self.old → (P.known port.new).in_hand ≡ number_in_hand self.new }
+        ensures next { HasClaimed self.new (P.port_view port.new) }
+        ensures claimed_number { (P.port_view port.old).claimed_number ≡ claimed_number_of self.old → (P.port_view port.new).claimed_number ≡ claimed_number_of self.new }
         ensures head { holds_head self.new ≡ true }
-        ensures rest { P.rest port.new ≡ P.rest port.old }
+        ensures rest_unchanged { P.rest port.new ≡ P.rest port.old }
     {
         match mem::replace(&mut self.progress, Progress::Free) {
             Progress::Free => self.claim(port),
             Progress::Claimed(job) => self.send(job, port, wires),
             Progress::Sent(job) => self.run(job, port, wires),
-            Progress::Run(job, head) => self.finish(job, &head, port, wires),
+            Progress::HeaderReceived(job, head) => self.finish(job, &head, port, wires),
         }
     }
 
     // Claims a job, if one waits.
     fn claim<P: WorkPort>(&mut self, port: &mut P) -> Step
         requires free { self.old ≡ Progress.Free }
-        ensures works { WithoutJob (P.known port.old) result self.new (P.known port.new) }
-        ensures next { HasClaimed self.new (P.known port.new) }
-        ensures hand { (P.known port.old).in_hand ≡ None → (P.known port.new).in_hand ≡ number_in_hand self.new }
+        ensures works { WithoutJob (P.port_view port.old) result self.new (P.port_view port.new) }
+        ensures next { HasClaimed self.new (P.port_view port.new) }
+        ensures claimed_number { (P.port_view port.old).claimed_number ≡ None → (P.port_view port.new).claimed_number ≡ claimed_number_of self.new }
         ensures head { holds_head self.new ≡ true }
-        ensures rest { P.rest port.new ≡ P.rest port.old }
+        ensures rest_unchanged { P.rest port.new ≡ P.rest port.old }
     {
         match port.claim() {
             Some(job) => {
@@ -91,14 +92,14 @@ impl Worker {
     // Sends the command of a claimed job, or answers a job that was cancelled.
     fn send<P: WorkPort, W: Wires>(&mut self, job: Job, port: &mut P, wires: &mut W) -> Step
         requires free { self.old ≡ Progress.Free }
-        requires in_hand { (P.known port.old).in_hand ≡ Some job.number }
-        ensures works { let before = wires_seen W.fails W.later (W.link wires.old) (W.plan wires.old) (W.faults wires.old) (W.traffic wires.old) in
-            let after = wires_seen W.fails W.later (W.link wires.new) (W.plan wires.new) (W.faults wires.new) (W.traffic wires.new) in
-            WithClaimed job (P.known port.old) before result self.new (P.known port.new) after }
+        requires claimed_number { (P.port_view port.old).claimed_number ≡ Some job.number }
+        ensures works { let before = worker_wires W.fails W.later (W.link wires.old) (W.schedule wires.old) (W.faults wires.old) (W.traffic wires.old) in
+            let after = worker_wires W.fails W.later (W.link wires.new) (W.schedule wires.new) (W.faults wires.new) (W.traffic wires.new) in
+            WithClaimed job (P.port_view port.old) before result self.new (P.port_view port.new) after }
         ensures untouched { job.cancelled ≡ true → wires.new ≡ wires.old }
-        ensures hand { (P.known port.new).in_hand ≡ number_in_hand self.new }
+        ensures claimed_number { (P.port_view port.new).claimed_number ≡ claimed_number_of self.new }
         ensures head { holds_head self.new ≡ true }
-        ensures rest { P.rest port.new ≡ P.rest port.old }
+        ensures rest_unchanged { P.rest port.new ≡ P.rest port.old }
     {
         if job.cancelled {
             return answer_cancelled(job, port);
@@ -115,13 +116,13 @@ impl Worker {
     // Receives the header of the response to a command that was sent.
     fn run<P: WorkPort, W: Wires>(&mut self, job: Job, port: &mut P, wires: &mut W) -> Step
         requires free { self.old ≡ Progress.Free }
-        requires in_hand { (P.known port.old).in_hand ≡ Some job.number }
-        ensures works { let before = wires_seen W.fails W.later (W.link wires.old) (W.plan wires.old) (W.faults wires.old) (W.traffic wires.old) in
-            let after = wires_seen W.fails W.later (W.link wires.new) (W.plan wires.new) (W.faults wires.new) (W.traffic wires.new) in
-            WithSent job (P.known port.old) before result self.new (P.known port.new) after }
-        ensures hand { (P.known port.new).in_hand ≡ number_in_hand self.new }
+        requires claimed_number { (P.port_view port.old).claimed_number ≡ Some job.number }
+        ensures works { let before = worker_wires W.fails W.later (W.link wires.old) (W.schedule wires.old) (W.faults wires.old) (W.traffic wires.old) in
+            let after = worker_wires W.fails W.later (W.link wires.new) (W.schedule wires.new) (W.faults wires.new) (W.traffic wires.new) in
+            WithSent job (P.port_view port.old) before result self.new (P.port_view port.new) after }
+        ensures claimed_number { (P.port_view port.new).claimed_number ≡ claimed_number_of self.new }
         ensures head { holds_head self.new ≡ true }
-        ensures rest { P.rest port.new ≡ P.rest port.old }
+        ensures rest_unchanged { P.rest port.new ≡ P.rest port.old }
     {
         let Ok(head) = receive_head(wires) else {
             return give_up(job, port);
@@ -130,7 +131,7 @@ impl Worker {
             return give_up(job, port);
         }
         let number = job.number;
-        self.progress = Progress::Run(job, head);
+        self.progress = Progress::HeaderReceived(job, head);
         Step::Exec(number)
     }
 
@@ -143,15 +144,15 @@ impl Worker {
         wires: &mut W,
     ) -> Step
         requires free { self.old ≡ Progress.Free }
-        requires in_hand { (P.known port.old).in_hand ≡ Some job.number }
+        requires claimed_number { (P.port_view port.old).claimed_number ≡ Some job.number }
         requires head { IsHead head.now ≡ true }
-        ensures works { let before = wires_seen W.fails W.later (W.link wires.old) (W.plan wires.old) (W.faults wires.old) (W.traffic wires.old) in
-            let after = wires_seen W.fails W.later (W.link wires.new) (W.plan wires.new) (W.faults wires.new) (W.traffic wires.new) in
-            WithRun job head.now (P.known port.old) before result self.new (P.known port.new) after }
+        ensures works { let before = worker_wires W.fails W.later (W.link wires.old) (W.schedule wires.old) (W.faults wires.old) (W.traffic wires.old) in
+            let after = worker_wires W.fails W.later (W.link wires.new) (W.schedule wires.new) (W.faults wires.new) (W.traffic wires.new) in
+            WithHeader job head.now (P.port_view port.old) before result self.new (P.port_view port.new) after }
         ensures untouched { is_longer head.now ≡ false → wires.new ≡ wires.old }
-        ensures hand { (P.known port.new).in_hand ≡ number_in_hand self.new }
+        ensures claimed_number { (P.port_view port.new).claimed_number ≡ claimed_number_of self.new }
         ensures holds { holds_head self.new ≡ true }
-        ensures rest { P.rest port.new ≡ P.rest port.old }
+        ensures rest_unchanged { P.rest port.new ≡ P.rest port.old }
     {
         let number = job.number;
         let mut job = job;
@@ -177,10 +178,10 @@ impl Worker {
 
 // Answers a job that was cancelled.
 fn answer_cancelled<P: WorkPort>(job: Job, port: &mut P) -> Step
-    requires in_hand { (P.known port.old).in_hand ≡ Some job.number }
+    requires claimed_number { (P.port_view port.old).claimed_number ≡ Some job.number }
     ensures step { result ≡ Step.Cancelled job.number }
-    ensures posted { Posts (P.known port.old) (answered job Outcome.Cancelled (short CANCELED)) (P.known port.new) }
-    ensures rest { P.rest port.new ≡ P.rest port.old }
+    ensures posted { Posts (P.port_view port.old) (answered job Outcome.Cancelled (short CANCELED)) (P.port_view port.new) }
+    ensures rest_unchanged { P.rest port.new ≡ P.rest port.old }
 {
     let number = job.number;
     let mut buf = job.buf;
@@ -195,10 +196,10 @@ fn answer_cancelled<P: WorkPort>(job: Job, port: &mut P) -> Step
 
 // Gives a job up: the answer says that it is lost, and its buffer goes back as it came.
 fn give_up<P: WorkPort>(job: Job, port: &mut P) -> Step
-    requires in_hand { (P.known port.old).in_hand ≡ Some job.number }
+    requires claimed_number { (P.port_view port.old).claimed_number ≡ Some job.number }
     ensures step { result ≡ Step.Lost job.number }
-    ensures posted { Posts (P.known port.old) (lost job) (P.known port.new) }
-    ensures rest { P.rest port.new ≡ P.rest port.old }
+    ensures posted { Posts (P.port_view port.old) (lost job) (P.port_view port.new) }
+    ensures rest_unchanged { P.rest port.new ≡ P.rest port.old }
 {
     let number = job.number;
     port.post(Answer {

@@ -1,4 +1,3 @@
-pub mod Hearing
 pub mod Sending
 pub mod Exchanging
 pub mod Fetching

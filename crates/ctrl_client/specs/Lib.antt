@@ -1,8 +1,5 @@
-pub mod Numbers
-pub mod Desk
-pub mod Plan
-pub mod Link
-pub mod Whole
+pub mod Schedules
+pub mod Receiving
 pub mod Exchange
 pub mod Pieces
 pub mod Traffic

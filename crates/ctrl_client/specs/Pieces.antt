@@ -1,16 +1,16 @@
 -- A piece of a blob is asked for, or another size of the buffer, over a link that is quiet. (Own definitions.)
 use Rattle.std.specs.Prelude.{◌≡◌, ◌+◌, ◌-◌, ◌<◌, ◌≤◌, ◌^◌, ℕ, Bool, true, false, not, ◌==◌, ◌||◌, ◌&&◌, nat_lt, min, if◌then◌else◌, ◌⊎◌, List, [], ◌++◌, length, take, drop, Option, Some, None, IfSome, Result, Ok, Err}
-use Rattle.vt_base.specs.declared.words.Kind.{Kind}
+use Rattle.vt_base.specs.declared.types.Kind.{Kind}
 use Rattle.tpm_core.specs.declared.parts.TpmParts.{TpmParts}
-use Rattle.state_blobs.specs.Texts.{text_of, slice}
-use Rattle.state_blobs.specs.declared.words.Piece.{Piece}
+use Rattle.state_blobs.specs.Encodings.{encode_blob, slice}
+use Rattle.state_blobs.specs.declared.types.Piece.{Piece}
 use Rattle.ctrl_client.specs.declared.fault.ClientFault.{ClientFault}
 use Rattle.ctrl_client.specs.declared.fault.ClientFault.TheVariants.{Link as LinkFault, Result as BadResult, Reply as BadReply}
-use Rattle.ctrl_client.specs.Numbers.{success, bad_parameter, bad_ordinal, flags_place, total_place, length_place, greatest_buffer}
-use Rattle.ctrl_client.specs.Desk.{Desk, buffer_for}
-use Rattle.vt_base.specs.declared.words.Chan.TheVariants.{Ctrl}
-use Rattle.ctrl_client.specs.Link.{Link, at_hand, received}
-use Rattle.ctrl_client.specs.Plan.{fails_within, plan_after}
+use Rattle.ctrl_model.specs.Numbers.{success, bad_parameter, bad_ordinal, flags_place, total_place, length_place, greatest_buffer}
+use Rattle.ctrl_model.specs.Emulator.{EmulatorState, buffer_for}
+use Rattle.vt_base.specs.declared.types.Chan.TheVariants.{Ctrl}
+use Rattle.ctrl_model.specs.Link.{Link, receivable, received}
+use Rattle.ctrl_client.specs.Schedules.{fails_within, schedule_after}
 use Rattle.ctrl_client.specs.Exchange.{IsQuiet}
 
 -- ---- a piece of a blob
@@ -26,9 +26,9 @@ pub record BlobFields : Type 0 where
 abbrev pub is_misfit : ℕ → ℕ → ℕ → Bool
 is_misfit size left room = nat_lt left size || nat_lt room size || (size == 0 && nat_lt 0 left)
 
--- the piece that the fields tell, or the first of them that can't stand
-abbrev pub judged_fields : BlobFields → ℕ → ℕ → Result Piece ClientFault
-judged_fields f offset room =
+-- the piece that the fields give, or the first of them that can't stand
+abbrev pub checked_fields : BlobFields → ℕ → ℕ → Result Piece ClientFault
+checked_fields f offset room =
     if not (f.result == success) then Err (BadResult f.result)
     else (if not (f.flags == 0) then Err (BadReply flags_place)
     else (if nat_lt f.total offset then Err (BadReply total_place)
@@ -57,26 +57,26 @@ fields_at text offset most =
 
 abbrev pub fields_of_tpm : Kind → ℕ → ℕ → Option TpmParts → BlobFields
 fields_of_tpm kind offset most None = refused_fields bad_ordinal
-fields_of_tpm kind offset most (Some t) = fields_at (text_of kind t) offset most
+fields_of_tpm kind offset most (Some t) = fields_at (encode_blob kind t) offset most
 
 -- the fields that the emulator's reply has
-abbrev pub fields_told : Kind → ℕ → Desk → BlobFields
-fields_told kind offset d = fields_of_tpm kind offset d.piece d.tpm
+abbrev pub fields_of_reply : Kind → ℕ → EmulatorState → BlobFields
+fields_of_reply kind offset d = fields_of_tpm kind offset d.piece d.tpm
 
 -- the answer that they make with so much room, and the bytes that come with it
-abbrev pub piece_given : Kind → ℕ → ℕ → Desk → Result Piece ClientFault
-piece_given kind offset room d = judged_fields (fields_told kind offset d) offset room
+abbrev pub piece_given : Kind → ℕ → ℕ → EmulatorState → Result Piece ClientFault
+piece_given kind offset room d = checked_fields (fields_of_reply kind offset d) offset room
 
 abbrev pub bytes_at : Result Piece ClientFault → List ℕ → ℕ → List ℕ
 bytes_at (Ok p) text offset = slice text offset p.length
 bytes_at (Err fault) text offset = []
 
-abbrev pub text_of_tpm : Kind → Option TpmParts → List ℕ
-text_of_tpm kind None = []
-text_of_tpm kind (Some t) = text_of kind t
+abbrev pub encode_blob_if_any : Kind → Option TpmParts → List ℕ
+encode_blob_if_any kind None = []
+encode_blob_if_any kind (Some t) = encode_blob kind t
 
-abbrev pub bytes_given : Kind → ℕ → ℕ → Desk → List ℕ
-bytes_given kind offset room d = bytes_at (piece_given kind offset room d) (text_of_tpm kind d.tpm) offset
+abbrev pub bytes_given : Kind → ℕ → ℕ → EmulatorState → List ℕ
+bytes_given kind offset room d = bytes_at (piece_given kind offset room d) (encode_blob_if_any kind d.tpm) offset
 
 -- whether bytes of a reply that isn't taken may wait: those of one that is malformed, and data that a refusal names
 abbrev pub leaves_bytes : Result Piece ClientFault → ℕ → Bool
@@ -93,27 +93,27 @@ calls_for (Err fault) = 2
 -- a link that is quiet, to an emulator whose blob's length fits its field
 pub record HasField (kind : Kind) (l : Link) : Type 0 where
   pub quiet : IsQuiet l
-  pub total : IfSome l.desk.tpm (λ t. length (text_of kind t) < 2 ^ 32)
+  pub total : IfSome l.emulator.tpm (λ t. length (encode_blob kind t) < 2 ^ 32)
 
--- One piece is asked for, and judged by the fields of the reply. Where it is taken its bytes stand in front. The emulator
+-- One piece is asked for, and checked by the fields of the reply. Where it is taken its bytes stand in front. The emulator
 -- and the link stay as they were: of a reply that isn't taken no byte waits.
-pub record Fetches {P : Type 0} (fails : P → Bool) (later : P → P) (kind : Kind) (offset room : ℕ) (l : Link) (plan : P) (answer : Result Piece ClientFault) (old new : List ℕ) (after : Option Link) (plan_now : P) : Type 0 where
-  pub plan_is : plan_now ≡ plan_after fails later (calls_for (piece_given kind offset room l.desk)) plan
+pub record Fetches {P : Type 0} (fails : P → Bool) (later : P → P) (kind : Kind) (offset room : ℕ) (l : Link) (schedule : P) (answer : Result Piece ClientFault) (old new : List ℕ) (after : Option Link) (schedule_now : P) : Type 0 where
+  pub schedule_is : schedule_now ≡ schedule_after fails later (calls_for (piece_given kind offset room l.emulator)) schedule
   pub link : after ≡ Some l
-  pub answer_is : answer ≡ (if fails_within fails later (calls_for (piece_given kind offset room l.desk)) plan then Err LinkFault else piece_given kind offset room l.desk)
-  pub bytes : fails_within fails later (calls_for (piece_given kind offset room l.desk)) plan ≡ false
-      → new ≡ bytes_given kind offset room l.desk ++ drop (length (bytes_given kind offset room l.desk)) old
+  pub answer_is : answer ≡ (if fails_within fails later (calls_for (piece_given kind offset room l.emulator)) schedule then Err LinkFault else piece_given kind offset room l.emulator)
+  pub bytes : fails_within fails later (calls_for (piece_given kind offset room l.emulator)) schedule ≡ false
+      → new ≡ bytes_given kind offset room l.emulator ++ drop (length (bytes_given kind offset room l.emulator)) old
   -- also where the data was lost, the slice behind it is as it was; and all of it where the request or the fields were
-  pub rest : drop (length (bytes_given kind offset room l.desk)) new ≡ drop (length (bytes_given kind offset room l.desk)) old
-  pub untouched : fails_within fails later 2 plan ≡ true → new ≡ old
+  pub rest : drop (length (bytes_given kind offset room l.emulator)) new ≡ drop (length (bytes_given kind offset room l.emulator)) old
+  pub untouched : fails_within fails later 2 schedule ≡ true → new ≡ old
 
 -- by whether there is data: it was received over this link, or the call failed
 abbrev pub TakesData : {P : Type 0} → Bool → (P → Bool) → (P → P) → Piece → Link → P → Result Piece ClientFault → List ℕ → List ℕ → Option Link → P → Type 0
-TakesData false fails later p m plan answer old new after plan_now = (answer ≡ Ok p) × (new ≡ old) × (after ≡ Some m) × (plan_now ≡ plan)
-TakesData true fails later p m plan answer old new after plan_now =
-    (answer ≡ (if fails plan then Err LinkFault else Ok p))
-    × (fails plan ≡ false → new ≡ take p.length (at_hand Ctrl m) ++ drop p.length old)
-    × (after ≡ Some (received (not (fails plan)) Ctrl p.length m)) × (plan_now ≡ later plan)
+TakesData false fails later p m schedule answer old new after schedule_now = (answer ≡ Ok p) × (new ≡ old) × (after ≡ Some m) × (schedule_now ≡ schedule)
+TakesData true fails later p m schedule answer old new after schedule_now =
+    (answer ≡ (if fails schedule then Err LinkFault else Ok p))
+    × (fails schedule ≡ false → new ≡ take p.length (receivable Ctrl m) ++ drop p.length old)
+    × (after ≡ Some (received (not (fails schedule)) Ctrl p.length m)) × (schedule_now ≡ later schedule)
     × (drop p.length new ≡ drop p.length old)
 
 -- ---- the size of the buffer
@@ -122,15 +122,15 @@ TakesData true fails later p m plan answer old new after plan_now =
 abbrev pub SizedBy : Bool → Bool → ℕ → Link → Result ℕ ClientFault → Option Link → Type 0
 SizedBy true lost size l answer after = (answer ≡ Err LinkFault) × (after ≡ Some l)
 SizedBy false lost size l answer after =
-    (after ≡ Some (record l { desk = record l.desk { buffer = buffer_for size l.desk.buffer } }))
-    × (answer ≡ (if lost then Err LinkFault else Ok (buffer_for size l.desk.buffer)))
+    (after ≡ Some (record l { emulator = record l.emulator { buffer = buffer_for size l.emulator.buffer } }))
+    × (answer ≡ (if lost then Err LinkFault else Ok (buffer_for size l.emulator.buffer)))
 
 -- the size is asked for, and what the emulator took is answered
-pub record Sizes {P : Type 0} (fails : P → Bool) (later : P → P) (size : ℕ) (l : Link) (plan : P) (answer : Result ℕ ClientFault) (after : Option Link) (plan_now : P) : Type 0 where
-  pub plan_is : plan_now ≡ plan_after fails later 2 plan
-  pub link : SizedBy (fails_within fails later 1 plan) (fails_within fails later 2 plan) size l answer after
+pub record Sizes {P : Type 0} (fails : P → Bool) (later : P → P) (size : ℕ) (l : Link) (schedule : P) (answer : Result ℕ ClientFault) (after : Option Link) (schedule_now : P) : Type 0 where
+  pub schedule_is : schedule_now ≡ schedule_after fails later 2 schedule
+  pub link : SizedBy (fails_within fails later 1 schedule) (fails_within fails later 2 schedule) size l answer after
 
 -- a link that is quiet, to an emulator whose buffer is no larger than the profile's
 pub record IsSized (l : Link) : Type 0 where
   pub quiet : IsQuiet l
-  pub most : l.desk.buffer ≤ greatest_buffer
+  pub most : l.emulator.buffer ≤ greatest_buffer

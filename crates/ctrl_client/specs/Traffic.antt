@@ -1,18 +1,18 @@
 -- What passes over wires that keep it, whatever is behind them, and the answers that it makes. (Own definitions.)
 use Rattle.std.specs.Prelude.{◌≡◌, ℕ, ◌<◌, ◌==◌, true, if◌then◌else◌, ◌⊎◌, List, [], ◌∷◌, ◌++◌, map, length, take, drop, Option, option_map, IfSome, Result, Ok, Err}
 use Rattle.std.specs.Int.{w32, from_be_bytes}
-use Rattle.vt_base.specs.declared.words.Chan.{Chan}
-use Rattle.vt_base.specs.declared.words.Chan.TheVariants.{Ctrl}
-use Rattle.tpm_frame.specs.Frame.{number_at}
-use Rattle.state_blobs.specs.declared.words.Piece.{Piece}
+use Rattle.vt_base.specs.declared.types.Chan.{Chan}
+use Rattle.vt_base.specs.declared.types.Chan.TheVariants.{Ctrl}
+use Rattle.tpm_frame.specs.Frame.{big_endian_at}
+use Rattle.state_blobs.specs.declared.types.Piece.{Piece}
 use Rattle.ctrl_codec.specs.declared.request.Request.{Request}
-use Rattle.ctrl_codec.specs.Requests.{spelling}
+use Rattle.ctrl_codec.specs.Requests.{encode_request}
 use Rattle.ctrl_client.specs.declared.fault.ClientFault.{ClientFault}
 use Rattle.ctrl_client.specs.declared.fault.ClientFault.TheVariants.{Result as BadResult}
-use Rattle.ctrl_client.specs.Exchange.{judged_result}
-use Rattle.ctrl_client.specs.Numbers.{success, flags_place, total_place, length_place}
-use Rattle.ctrl_client.specs.Link.{Link, empty_lane}
-use Rattle.ctrl_client.specs.Pieces.{BlobFields, judged_fields, leaves_bytes}
+use Rattle.ctrl_client.specs.Exchange.{checked_result}
+use Rattle.ctrl_model.specs.Numbers.{success, flags_place, total_place, length_place}
+use Rattle.ctrl_model.specs.Link.{Link, empty_channel}
+use Rattle.ctrl_client.specs.Pieces.{BlobFields, checked_fields, leaves_bytes}
 
 -- all bytes that were sent so far, and all that were received, each with its channel
 pub record Traffic : Type 0 where
@@ -52,34 +52,34 @@ abbrev pub CamePart : Chan → List ℕ → Option Traffic → Option Traffic �
 CamePart chan into before after = (n : ℕ) × (n < length into) × Came chan (take n into) before after
 
 -- the bytes of a request with its data, in which those that mean nothing are zeros
-abbrev pub request_text : Request → List ℕ → List ℕ
-request_text q payload = spelling q (0 ∷ 0 ∷ 0 ∷ []) payload
+abbrev pub encode_zeroed_request : Request → List ℕ → List ℕ
+encode_zeroed_request q payload = encode_request q (0 ∷ 0 ∷ 0 ∷ []) payload
 
 -- A request was sent with its data, then these bytes of the reply were received, and nothing else passed.
 abbrev pub Passed : Request → List ℕ → List ℕ → Option Traffic → Option Traffic → Type 0
-Passed q payload reply before after = after ≡ option_map (λ t. with_received Ctrl reply (with_sent Ctrl (request_text q payload) t)) before
+Passed q payload reply before after = after ≡ option_map (λ t. with_received Ctrl reply (with_sent Ctrl (encode_zeroed_request q payload) t)) before
 
 -- the answer is the result that stands in the four bytes that came
 pub record TellsResult (q : Request) (payload : List ℕ) (before after : Option Traffic) (answer : Result (Unit {0}) ClientFault) : Type 0 where
   pub reply : List ℕ
   pub size : length reply ≡ 4
   pub passed : Passed q payload reply before after
-  pub answer_is : answer ≡ judged_result (from_be_bytes w32 reply)
+  pub answer_is : answer ≡ checked_result (from_be_bytes w32 reply)
 
 -- what is answered for a result and a size
-abbrev pub judged_size : ℕ → ℕ → Result ℕ ClientFault
-judged_size result size = if result == success then Ok size else Err (BadResult result)
+abbrev pub checked_size : ℕ → ℕ → Result ℕ ClientFault
+checked_size result size = if result == success then Ok size else Err (BadResult result)
 
 -- the answer is the size that stands in the sixteen bytes that came, or their result
 pub record TellsSize (q : Request) (before after : Option Traffic) (answer : Result ℕ ClientFault) : Type 0 where
   pub reply : List ℕ
   pub size : length reply ≡ 16
   pub passed : Passed q [] reply before after
-  pub answer_is : answer ≡ judged_size (number_at w32 0 reply) (number_at w32 4 reply)
+  pub answer_is : answer ≡ checked_size (big_endian_at w32 0 reply) (big_endian_at w32 4 reply)
 
 -- the fields in the sixteen bytes before the data
 abbrev pub fields_in : List ℕ → BlobFields
-fields_in fixed = record { result = number_at w32 0 fixed; flags = number_at w32 flags_place fixed; total = number_at w32 total_place fixed; size = number_at w32 length_place fixed }
+fields_in fixed = record { result = big_endian_at w32 0 fixed; flags = big_endian_at w32 flags_place fixed; total = big_endian_at w32 total_place fixed; size = big_endian_at w32 length_place fixed }
 
 -- how many bytes of data come with an answer
 abbrev pub data_size : Result Piece ClientFault → ℕ
@@ -92,17 +92,17 @@ pub record TellsPiece (q : Request) (offset : ℕ) (before after : Option Traffi
   pub fixed : List ℕ
   pub size : length fixed ≡ 16
   pub passed : Passed q [] (fixed ++ take (data_size answer) new) before after
-  pub answer_is : answer ≡ judged_fields (fields_in fixed) offset (length old)
+  pub answer_is : answer ≡ checked_fields (fields_in fixed) offset (length old)
   pub rest : drop (data_size answer) new ≡ drop (data_size answer) old
-  pub forgotten : leaves_bytes answer (fields_in fixed).size ≡ true → IfSome link (λ l. l.control ≡ empty_lane)
+  pub forgotten : leaves_bytes answer (fields_in fixed).size ≡ true → IfSome link (λ l. l.control ≡ empty_channel)
 
--- The data of a piece was lost: the fields came and tell the piece, and then fewer bytes of it than it has. Those are in
+-- The data of a piece was lost: the fields came and give the piece, and then fewer bytes of it than it has. Those are in
 -- front, and the slice behind the piece is as it was. Between them the wires may have left anything.
 pub record LosesData (q : Request) (offset : ℕ) (before after : Option Traffic) (old new : List ℕ) : Type 0 where
   pub fixed : List ℕ
   pub size : length fixed ≡ 16
   pub piece : Piece
-  pub piece_is : judged_fields (fields_in fixed) offset (length old) ≡ Ok piece
+  pub piece_is : checked_fields (fields_in fixed) offset (length old) ≡ Ok piece
   pub count : ℕ
   pub fewer : count < piece.length
   pub passed : Passed q [] (fixed ++ take count new) before after

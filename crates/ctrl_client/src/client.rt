@@ -2,25 +2,25 @@
 ghost use Rattle.std.specs.Prelude.{◌≡◌, ◌≢◌, ◌<◌, ◌≤◌, ℕ, [], length, is_ok, Some, Err, IfSome, OnOk};
 ghost use Rattle.vt_base.specs.Faults.{Counts};
 ghost use Rattle.ctrl_codec.specs.Requests.{HasData, IsInRange};
-ghost use Rattle.ctrl_codec.specs.Replies.{reply_spelling};
-ghost use Rattle.ctrl_client.specs.Desk.{Desk, Turn, Obeys, kind_of, type_of};
-ghost use Rattle.ctrl_client.specs.Exchange.{IsQuiet, Sends, Exchanges, HasResult, Commands, CountsLink};
-ghost use Rattle.ctrl_client.specs.Traffic.{Went, Passed, TellsResult, request_text};
+ghost use Rattle.ctrl_codec.specs.Replies.{encode_reply};
+ghost use Rattle.ctrl_model.specs.Emulator.{EmulatorState, RequestOutcome, HandlesRequest, kind_of, type_of};
+ghost use Rattle.ctrl_client.specs.Exchange.{IsQuiet, SendsRequest, Exchanges, HasResult, Commands, CountsLink};
+ghost use Rattle.ctrl_client.specs.Traffic.{Went, Passed, TellsResult, encode_zeroed_request};
 
 use crate::fault::ClientFault;
-use crate::profile::{LARGEST_PIECE, PERMANENT_BLOB, SAVED_BLOB, VOLATILE_BLOB};
-use crate::whole::receive_whole;
+use crate::receive::receive_exact;
 use crate::wires::Wires;
 use ctrl_codec::{DATA_PLACE, Out, Request, write_request};
+use ctrl_model::{LARGEST_PIECE, PERMANENT_BLOB, SAVED_BLOB, VOLATILE_BLOB};
 use vt_base::{Chan, Failed, Kind};
 
 // Sends a request, and its data behind it.
 fn send_request<W: Wires>(wires: &mut W, request: &Request, payload: &[u8]) -> Result<(), Failed>
     requires range { IsInRange request.now }
     requires data { HasData request.now payload.now }
-    ensures told { IfSome (W.link wires.old) (λ l. IsQuiet l
-        → Sends W.fails W.later request.now payload.now l (W.plan wires.old) (is_ok result) (W.link wires.new) (W.plan wires.new)) }
-    ensures went { OnOk result (Went Chan.Ctrl (request_text request.now payload.now) (W.traffic wires.old) (W.traffic wires.new)) }
+    ensures exact { IfSome (W.link wires.old) (λ l. IsQuiet l
+        → SendsRequest W.fails W.later request.now payload.now l (W.schedule wires.old) (is_ok result) (W.link wires.new) (W.schedule wires.new)) }
+    ensures went { OnOk result (Went Chan.Ctrl (encode_zeroed_request request.now payload.now) (W.traffic wires.old) (W.traffic wires.new)) }
     ensures counts { Counts (W.faults wires.old) (W.faults wires.new) result }
 {
     let mut out = Out::new();
@@ -44,15 +44,15 @@ pub(crate) fn exchange<W: Wires>(
     requires range { IsInRange request.now }
     requires data { HasData request.now payload.now }
     requires some { 0 < length reply.old }
-    requires room { (d : Desk) (turn : Turn) → Obeys request.now payload.now d turn → length reply.old ≤ length (reply_spelling turn.reply turn.payload) }
-    ensures told { IfSome (W.link wires.old) (λ l. IsQuiet l
-        → Exchanges W.fails W.later request.now payload.now l (W.plan wires.old) (is_ok result) reply.new (W.link wires.new) (W.plan wires.new)) }
+    requires room { (d : EmulatorState) (request_outcome : RequestOutcome) → HandlesRequest request.now payload.now d request_outcome → length reply.old ≤ length (encode_reply request_outcome.reply request_outcome.payload) }
+    ensures exact { IfSome (W.link wires.old) (λ l. IsQuiet l
+        → Exchanges W.fails W.later request.now payload.now l (W.schedule wires.old) (is_ok result) reply.new (W.link wires.new) (W.schedule wires.new)) }
     ensures passed { OnOk result (Passed request.now payload.now reply.new (W.traffic wires.old) (W.traffic wires.new)) }
     ensures size { length reply.new ≡ length reply.old }
     ensures counts { Counts (W.faults wires.old) (W.faults wires.new) result }
 {
     send_request(wires, request, payload)?;
-    receive_whole(wires, Chan::Ctrl, reply)
+    receive_exact(wires, Chan::Ctrl, reply)
 }
 
 // Sends a request that is answered by a result alone.
@@ -60,8 +60,8 @@ fn command<W: Wires>(wires: &mut W, request: &Request, payload: &[u8]) -> Result
     requires range { IsInRange request.now }
     requires data { HasData request.now payload.now }
     requires result { HasResult request.now }
-    ensures told { IfSome (W.link wires.old) (λ l. IsQuiet l
-        → Commands W.fails W.later request.now payload.now l (W.plan wires.old) result (W.link wires.new) (W.plan wires.new)) }
+    ensures exact { IfSome (W.link wires.old) (λ l. IsQuiet l
+        → Commands W.fails W.later request.now payload.now l (W.schedule wires.old) result (W.link wires.new) (W.schedule wires.new)) }
 
     // Over any wires.
     ensures reply { result ≢ Err ClientFault.Link → TellsResult request.now payload.now (W.traffic wires.old) (W.traffic wires.new) result }
@@ -94,9 +94,9 @@ pub(crate) fn type_of(kind: Kind) -> u32
 /// Switches the emulator on. Where blobs were given to it its TPM is assembled from them; otherwise the TPM that it has is
 /// powered on, unless its volatile state was stored. Bit 0 of the flags deletes the volatile state.
 pub fn init<W: Wires>(wires: &mut W, flags: u32) -> Result<(), ClientFault>
-    // Over wires that tell their link, while no byte waits on the control channel and it is open.
-    ensures told { IfSome (W.link wires.old) (λ l. IsQuiet l
-        → Commands W.fails W.later (Request.Init flags) [] l (W.plan wires.old) result (W.link wires.new) (W.plan wires.new)) }
+    // Over wires whose link is known, while no byte waits on the control channel and it is open.
+    ensures exact { IfSome (W.link wires.old) (λ l. IsQuiet l
+        → Commands W.fails W.later (Request.Init flags) [] l (W.schedule wires.old) result (W.link wires.new) (W.schedule wires.new)) }
 
     // Over any wires.
     ensures reply { result ≢ Err ClientFault.Link → TellsResult (Request.Init flags) [] (W.traffic wires.old) (W.traffic wires.new) result }
@@ -109,9 +109,9 @@ pub fn init<W: Wires>(wires: &mut W, flags: u32) -> Result<(), ClientFault>
 
 /// Switches the emulator off. It keeps its TPM, and forgets the blobs that were given to it.
 pub fn stop<W: Wires>(wires: &mut W) -> Result<(), ClientFault>
-    // Over wires that tell their link, while no byte waits on the control channel and it is open.
-    ensures told { IfSome (W.link wires.old) (λ l. IsQuiet l
-        → Commands W.fails W.later Request.Stop [] l (W.plan wires.old) result (W.link wires.new) (W.plan wires.new)) }
+    // Over wires whose link is known, while no byte waits on the control channel and it is open.
+    ensures exact { IfSome (W.link wires.old) (λ l. IsQuiet l
+        → Commands W.fails W.later Request.Stop [] l (W.schedule wires.old) result (W.link wires.new) (W.schedule wires.new)) }
 
     // Over any wires.
     ensures reply { result ≢ Err ClientFault.Link → TellsResult Request.Stop [] (W.traffic wires.old) (W.traffic wires.new) result }
@@ -124,9 +124,9 @@ pub fn stop<W: Wires>(wires: &mut W) -> Result<(), ClientFault>
 
 /// Asks that the command which the emulator holds be cancelled.
 pub fn cancel<W: Wires>(wires: &mut W) -> Result<(), ClientFault>
-    // Over wires that tell their link, while no byte waits on the control channel and it is open.
-    ensures told { IfSome (W.link wires.old) (λ l. IsQuiet l
-        → Commands W.fails W.later Request.CancelCommand [] l (W.plan wires.old) result (W.link wires.new) (W.plan wires.new)) }
+    // Over wires whose link is known, while no byte waits on the control channel and it is open.
+    ensures exact { IfSome (W.link wires.old) (λ l. IsQuiet l
+        → Commands W.fails W.later Request.CancelCommand [] l (W.schedule wires.old) result (W.link wires.new) (W.schedule wires.new)) }
 
     // Over any wires.
     ensures reply { result ≢ Err ClientFault.Link → TellsResult Request.CancelCommand [] (W.traffic wires.old) (W.traffic wires.new) result }
@@ -141,9 +141,9 @@ pub fn cancel<W: Wires>(wires: &mut W) -> Result<(), ClientFault>
 pub fn put_piece<W: Wires>(wires: &mut W, kind: Kind, bytes: &[u8]) -> Result<(), ClientFault>
     requires some { 0 < length bytes.now }
     requires most { length bytes.now ≤ LARGEST_PIECE }
-    // Over wires that tell their link, while no byte waits on the control channel and it is open.
-    ensures told { IfSome (W.link wires.old) (λ l. IsQuiet l
-        → Commands W.fails W.later (Request.SetStateBlob 0 (type_of kind) (length bytes.now)) bytes.now l (W.plan wires.old) result (W.link wires.new) (W.plan wires.new)) }
+    // Over wires whose link is known, while no byte waits on the control channel and it is open.
+    ensures exact { IfSome (W.link wires.old) (λ l. IsQuiet l
+        → Commands W.fails W.later (Request.SetStateBlob 0 (type_of kind) (length bytes.now)) bytes.now l (W.schedule wires.old) result (W.link wires.new) (W.schedule wires.new)) }
 
     // Over any wires.
     ensures reply { result ≢ Err ClientFault.Link → TellsResult (Request.SetStateBlob 0 (type_of kind) (length bytes.now)) bytes.now (W.traffic wires.old) (W.traffic wires.new) result }

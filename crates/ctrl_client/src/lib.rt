@@ -9,7 +9,7 @@
 //! init(&mut wires, 0)?;
 //! // Commands go over the other channel of the wires. One that takes too long is cancelled.
 //! cancel(&mut wires)?;
-//! // The volatile state, a piece at a time: piece.length bytes of piece.total stand at the front of `into`.
+//! // The volatile state, a piece at a time: piece.length bytes of piece.total stand at the start of `into`.
 //! let (mut into, mut at) = ([0; LARGEST_PIECE], 0);
 //! loop {
 //!     let piece = get_piece(&mut wires, Kind::Volatile, at, &mut into)?;
@@ -21,7 +21,7 @@
 //!
 //! Each call sends one request and takes its whole reply before it ends. [`ClientFault`] says why there was no good one: a
 //! call on the wires failed, the emulator answered a result that isn't 0, or a field of the reply can't stand. The messages
-//! are those of `ctrl_codec`; what the emulator does with each is a definition of this crate, which it is proved against.
+//! are those of `ctrl_codec`; what the emulator does with each is a definition of `ctrl_model`, which it is proved against.
 //!
 //! The wires are left to the caller: [`Wires`] says what a send, a receive and a cut have to do. Where a send fails the
 //! emulator never saw the request; where a receive fails it obeyed it, and the reply is lost. [`ClientFault::Link`] doesn't
@@ -33,17 +33,12 @@ mod client;
 mod fault;
 pub mod laws;
 mod pieces;
-mod profile;
-mod whole;
+mod places;
+mod receive;
 mod wires;
 
 pub use client::{cancel, init, put_piece, stop};
 pub use fault::ClientFault;
 pub use pieces::{get_piece, set_buffer};
-pub use profile::{
-    BAD_ORDINAL, BAD_PARAMETER, CAPABILITIES, DELETE_VOLATILE, FLAGS_PLACE, GREATEST_BUFFER,
-    LARGEST_PIECE, LEAST_BUFFER, LENGTH_PLACE, PERMANENT_BLOB, SAVED_BLOB, SUCCESS, TOTAL_PLACE,
-    VOLATILE_BLOB,
-};
-pub use whole::receive_whole;
+pub use receive::receive_exact;
 pub use wires::Wires;

@@ -1,19 +1,20 @@
 //! A piece of a blob, and the size of the buffer.
 ghost use Rattle.std.specs.Prelude.{◌≡◌, ◌≢◌, ◌≤◌, ℕ, length, take, drop, nat_lt, if◌then◌else◌, Err, IfOk, IfErr, IfSome, OnOk, OnErr, option_map};
-ghost use Rattle.tpm_frame.specs.Frame.{number_at};
+ghost use Rattle.tpm_frame.specs.Frame.{big_endian_at};
 ghost use Rattle.std.specs.Int.{w32};
-ghost use Rattle.ctrl_client.specs.Desk.{type_of};
-ghost use Rattle.ctrl_client.specs.Link.{empty_lane, at_hand, cut};
-ghost use Rattle.ctrl_client.specs.Pieces.{judged_fields, leaves_bytes, IsPiece, IsPlace, HasField, Fetches, TakesData, IsSized, Sizes};
+ghost use Rattle.ctrl_model.specs.Emulator.{type_of};
+ghost use Rattle.ctrl_model.specs.Link.{empty_channel, receivable, cut};
+ghost use Rattle.ctrl_client.specs.Pieces.{checked_fields, leaves_bytes, IsPiece, IsPlace, HasField, Fetches, TakesData, IsSized, Sizes};
 ghost use Rattle.ctrl_client.specs.Exchange.{CountsLink};
 ghost use Rattle.ctrl_client.specs.Traffic.{Came, CamePart, fields_in, TellsPiece, LeavesSlice, TellsSize};
 
 use crate::client::{exchange, type_of};
 use crate::fault::ClientFault;
-use crate::profile::{FIXED_LENGTH, FLAGS_PLACE, LENGTH_PLACE, SIZE_PLACE, SUCCESS, TOTAL_PLACE};
-use crate::whole::receive_whole;
+use crate::places::{FIXED_LENGTH, SIZE_PLACE};
+use crate::receive::receive_exact;
 use crate::wires::Wires;
 use ctrl_codec::Request;
+use ctrl_model::{FLAGS_PLACE, LENGTH_PLACE, SUCCESS, TOTAL_PLACE};
 use state_blobs::Piece;
 use std::marker::Model;
 use tpm_frame::u32_at;
@@ -48,9 +49,9 @@ impl Fields {
         }
     }
 
-    // The piece that they tell, or why they can't stand.
-    fn judge(&self, offset: u32, room: usize) -> Result<Piece, ClientFault>
-        ensures judged { result ≡ judged_fields self.now offset room }
+    // The piece that they give, or why they can't stand.
+    fn check(&self, offset: u32, room: usize) -> Result<Piece, ClientFault>
+        ensures checked { result ≡ checked_fields self.now offset room }
         ensures piece { IfOk result (IsPiece offset room) }
     {
         if self.result != SUCCESS {
@@ -86,10 +87,10 @@ pub fn get_piece<W: Wires>(
     offset: u32,
     into: &mut [u8],
 ) -> Result<Piece, ClientFault>
-    // Over wires that tell their link, while no byte waits on the control channel and it is open, and where the blob's
+    // Over wires whose link is known, while no byte waits on the control channel and it is open, and where the blob's
     // length fits its field: the answer is the one that the fields of the emulator's reply make.
-    ensures told { IfSome (W.link wires.old) (λ l. HasField kind l
-        → Fetches W.fails W.later kind offset (length into.old) l (W.plan wires.old) result into.old into.new (W.link wires.new) (W.plan wires.new)) }
+    ensures exact { IfSome (W.link wires.old) (λ l. HasField kind l
+        → Fetches W.fails W.later kind offset (length into.old) l (W.schedule wires.old) result into.old into.new (W.link wires.new) (W.schedule wires.new)) }
 
     // Over any wires.
     ensures reply { result ≢ Err ClientFault.Link
@@ -102,7 +103,7 @@ pub fn get_piece<W: Wires>(
     ensures place { (place : ℕ) → result ≡ Err (ClientFault.Reply place) → IsPlace place }
 
     // After a reply that can't stand nothing waits on the channel.
-    ensures cut { (place : ℕ) → result ≡ Err (ClientFault.Reply place) → IfSome (W.link wires.new) (λ l. l.control ≡ empty_lane) }
+    ensures cut { (place : ℕ) → result ≡ Err (ClientFault.Reply place) → IfSome (W.link wires.new) (λ l. l.control ≡ empty_channel) }
 {
     let request = Request::GetStateBlob {
         flags: 0,
@@ -114,7 +115,7 @@ pub fn get_piece<W: Wires>(
         return Err(ClientFault::Link);
     }
     let fields = Fields::read(&fixed);
-    match fields.judge(offset, into.len()) {
+    match fields.check(offset, into.len()) {
         Ok(piece) => receive_data(wires, piece, into),
         Err(fault) => {
             forget_rest(wires, fault, &fields);
@@ -126,7 +127,7 @@ pub fn get_piece<W: Wires>(
 // Cuts the control channel where more bytes of a reply may come whose fields were refused.
 fn forget_rest<W: Wires>(wires: &mut W, fault: ClientFault, fields: &Fields)
     ensures link { W.link wires.new ≡ (if leaves_bytes (Err fault) fields.now.size then option_map (cut Chan.Ctrl) (W.link wires.old) else W.link wires.old) }
-    ensures plan { IfSome (W.link wires.old) (λ _. W.plan wires.new ≡ W.plan wires.old) }
+    ensures schedule { IfSome (W.link wires.old) (λ _. W.schedule wires.new ≡ W.schedule wires.old) }
     ensures traffic { W.traffic wires.new ≡ W.traffic wires.old }
     ensures faults { W.faults wires.new ≡ W.faults wires.old }
 {
@@ -139,19 +140,19 @@ fn forget_rest<W: Wires>(wires: &mut W, fault: ClientFault, fields: &Fields)
     }
 }
 
-// Receives the data of a piece into the front of `into`, if there is any.
+// Receives the data of a piece into the start of `into`, if there is any.
 fn receive_data<W: Wires>(
     wires: &mut W,
     piece: Piece,
     into: &mut [u8],
 ) -> Result<Piece, ClientFault>
     requires room { piece.length ≤ length into.old }
-    ensures told { IfSome (W.link wires.old) (λ m. piece.length ≤ length (at_hand Chan.Ctrl m)
-        → TakesData (nat_lt 0 piece.length) W.fails W.later piece m (W.plan wires.old) result into.old into.new (W.link wires.new) (W.plan wires.new)) }
+    ensures exact { IfSome (W.link wires.old) (λ m. piece.length ≤ length (receivable Chan.Ctrl m)
+        → TakesData (nat_lt 0 piece.length) W.fails W.later piece m (W.schedule wires.old) result into.old into.new (W.link wires.new) (W.schedule wires.new)) }
     ensures piece { IfOk result (λ p. p ≡ piece) }
     ensures came { OnOk result (Came Chan.Ctrl (take piece.length into.new) (W.traffic wires.old) (W.traffic wires.new)) }
     ensures part { OnErr result (CamePart Chan.Ctrl (take piece.length into.new) (W.traffic wires.old) (W.traffic wires.new)) }
-    ensures rest { drop piece.length into.new ≡ drop piece.length into.old }
+    ensures rest_unchanged { drop piece.length into.new ≡ drop piece.length into.old }
     ensures size { length into.new ≡ length into.old }
     ensures fault { IfErr result (λ fault. fault ≡ ClientFault.Link) }
     ensures counts { CountsLink (W.faults wires.old) (W.faults wires.new) result }
@@ -159,8 +160,8 @@ fn receive_data<W: Wires>(
     if piece.length == 0 {
         return Ok(piece);
     }
-    let front = &mut into[..piece.length as usize];
-    match receive_whole(wires, Chan::Ctrl, front) {
+    let prefix = &mut into[..piece.length as usize];
+    match receive_exact(wires, Chan::Ctrl, prefix) {
         Ok(()) => Ok(piece),
         Err(_) => Err(ClientFault::Link),
     }
@@ -169,9 +170,9 @@ fn receive_data<W: Wires>(
 /// Asks for another size of the buffer of commands and responses, and gives the size that the emulator took; 0 asks for the
 /// size that it has.
 pub fn set_buffer<W: Wires>(wires: &mut W, size: u32) -> Result<u32, ClientFault>
-    // Over wires that tell their link, while no byte waits on the control channel and it is open.
-    ensures told { IfSome (W.link wires.old) (λ l. IsSized l
-        → Sizes W.fails W.later size l (W.plan wires.old) result (W.link wires.new) (W.plan wires.new)) }
+    // Over wires whose link is known, while no byte waits on the control channel and it is open.
+    ensures exact { IfSome (W.link wires.old) (λ l. IsSized l
+        → Sizes W.fails W.later size l (W.schedule wires.old) result (W.link wires.new) (W.schedule wires.new)) }
 
     // Over any wires.
     ensures reply { result ≢ Err ClientFault.Link → TellsSize (Request.SetBufferSize size) (W.traffic wires.old) (W.traffic wires.new) result }

@@ -1,10 +1,10 @@
 -- The codes of control requests, after swtpm's manual.
 use Rattle.std.specs.Prelude.{ℕ, ◌==◌, List, [], ◌∷◌, Option, find}
-use Rattle.ctrl_codec.specs.declared.command.Command.{Command}
-use Rattle.ctrl_codec.specs.declared.command.Command.TheVariants.{GetCapability, Init, Shutdown, GetEstablished, SetLocality, CancelCommand, StoreVolatile, ResetEstablished, GetStateBlob, SetStateBlob, Stop, GetConfig, SetBufferSize}
+use Rattle.ctrl_codec.specs.declared.request_code.RequestCode.{RequestCode}
+use Rattle.ctrl_codec.specs.declared.request_code.RequestCode.TheVariants.{GetCapability, Init, Shutdown, GetEstablished, SetLocality, CancelCommand, StoreVolatile, ResetEstablished, GetStateBlob, SetStateBlob, Stop, GetConfig, SetBufferSize}
 
 -- the code of a command
-abbrev pub code_of : Command → ℕ
+abbrev pub code_of : RequestCode → ℕ
 code_of GetCapability = 1
 code_of Init = 2
 code_of Shutdown = 3
@@ -20,9 +20,9 @@ code_of GetConfig = 15
 code_of SetBufferSize = 17
 
 -- the profile
-abbrev pub commands : List Command
+abbrev pub commands : List RequestCode
 commands = GetCapability ∷ Init ∷ Shutdown ∷ GetEstablished ∷ SetLocality ∷ CancelCommand ∷ StoreVolatile ∷ ResetEstablished ∷ GetStateBlob ∷ SetStateBlob ∷ Stop ∷ GetConfig ∷ SetBufferSize ∷ []
 
 -- the command of a code, if the profile has one
-abbrev pub command_at : ℕ → Option Command
+abbrev pub command_at : ℕ → Option RequestCode
 command_at code = find (λ c. code_of c == code) commands

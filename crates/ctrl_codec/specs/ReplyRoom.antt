@@ -6,8 +6,8 @@ use Rattle.std.proofs.lemmas.Bool.{ltb-false}
 use Rattle.vt_base.specs.Layout.{Layout, Ends, IsWithin}
 use Rattle.vt_base.specs.Within.{either_within}
 use Rattle.ctrl_codec.specs.Numbers.{largest_message}
-use Rattle.ctrl_codec.specs.declared.command.Command.{Command}
-use Rattle.ctrl_codec.specs.declared.command.Command.TheVariants.{GetCapability, GetEstablished, GetStateBlob, GetConfig, SetBufferSize}
+use Rattle.ctrl_codec.specs.declared.request_code.RequestCode.{RequestCode}
+use Rattle.ctrl_codec.specs.declared.request_code.RequestCode.TheVariants.{GetCapability, GetEstablished, GetStateBlob, GetConfig, SetBufferSize}
 use Rattle.ctrl_codec.specs.declared.reply.ReplyFault.TheVariants.{Value}
 use Rattle.ctrl_codec.specs.Replies.{ReplyEnding, zero_then, replies_to}
 
@@ -15,7 +15,7 @@ zero_within : (place : ℕ) (next : Layout ReplyEnding) (room : ℕ) → 1 ≤ r
 zero_within place next room le h = (le, λ b. either_within (eqb (slice_index b 0) 0) next (Ends (Err (Value place))) (room - 1) (λ _. h) (λ _. tt))
 
 -- No reply has more bytes than there is room for.
-pub replies_within : (c : Command) → IsWithin (replies_to c) largest_message
+pub replies_within : (c : RequestCode) → IsWithin (replies_to c) largest_message
 unfolding replies_to
 replies_within GetCapability = (lit≤ tt, λ _. tt)
 replies_within GetEstablished = (lit≤ tt, λ _. (lit≤ tt, λ _. zero_within 5 _ 4107 (lit≤ tt) (zero_within 6 _ 4106 (lit≤ tt) (zero_within 7 _ 4105 (lit≤ tt) tt))))

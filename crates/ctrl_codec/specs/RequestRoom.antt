@@ -6,12 +6,12 @@ use Rattle.std.proofs.lemmas.Bool.{ltb-false}
 use Rattle.vt_base.specs.Layout.{IsWithin}
 use Rattle.vt_base.specs.Within.{either_within}
 use Rattle.ctrl_codec.specs.Numbers.{largest_message}
-use Rattle.ctrl_codec.specs.declared.command.Command.{Command}
-use Rattle.ctrl_codec.specs.declared.command.Command.TheVariants.{GetCapability, Init, Shutdown, GetEstablished, SetLocality, CancelCommand, StoreVolatile, ResetEstablished, GetStateBlob, SetStateBlob, Stop, GetConfig, SetBufferSize}
+use Rattle.ctrl_codec.specs.declared.request_code.RequestCode.{RequestCode}
+use Rattle.ctrl_codec.specs.declared.request_code.RequestCode.TheVariants.{GetCapability, Init, Shutdown, GetEstablished, SetLocality, CancelCommand, StoreVolatile, ResetEstablished, GetStateBlob, SetStateBlob, Stop, GetConfig, SetBufferSize}
 use Rattle.ctrl_codec.specs.Commands.{command_at}
 use Rattle.ctrl_codec.specs.Requests.{requests, body_of, body_at}
 
-body_within : (c : Command) → IsWithin (body_of c) 4108
+body_within : (c : RequestCode) → IsWithin (body_of c) 4108
 body_within GetCapability = tt
 body_within Init = (lit≤ tt, λ _. tt)
 body_within Shutdown = tt
@@ -26,7 +26,7 @@ body_within Stop = tt
 body_within GetConfig = tt
 body_within SetBufferSize = (lit≤ tt, λ _. tt)
 
-body_at_within : (code : ℕ) (o : Option Command) → IsWithin (body_at code o) 4108
+body_at_within : (code : ℕ) (o : Option RequestCode) → IsWithin (body_at code o) 4108
 body_at_within code None = tt
 body_at_within code (Some c) = body_within c
 

@@ -12,4 +12,4 @@ pub record Asked : Type 0 where
 abbrev pub AreAsked : List Asked → List ℕ → List ℕ → Type 0
 AreAsked [] stream rest = stream ≡ rest
 AreAsked (asked ∷ others) stream rest =
-    (front : List ℕ) × (back : List ℕ) × (stream ≡ front ++ back) × Asks asked.request asked.payload front × AreAsked others back rest
+    (prefix : List ℕ) × (back : List ℕ) × (stream ≡ prefix ++ back) × Asks asked.request asked.payload prefix × AreAsked others back rest

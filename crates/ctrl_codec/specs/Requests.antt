@@ -2,8 +2,8 @@
 use Rattle.std.specs.Prelude.{◌≡◌, ℕ, ◌≤◌, ◌<◌, ◌^◌, List, [], ◌∷◌, ◌++◌, length, nat_lt, if◌then◌else◌, Option, Some, None, Result, Ok, Err}
 use Rattle.vt_base.specs.Numbers.{number}
 use Rattle.vt_base.specs.Layout.{Layout, Ends, Field, byte_then, number_then}
-use Rattle.ctrl_codec.specs.declared.command.Command.{Command}
-use Rattle.ctrl_codec.specs.declared.command.Command.TheVariants as command
+use Rattle.ctrl_codec.specs.declared.request_code.RequestCode.{RequestCode}
+use Rattle.ctrl_codec.specs.declared.request_code.RequestCode.TheVariants as command
 use Rattle.ctrl_codec.specs.declared.request.Request.{Request}
 use Rattle.ctrl_codec.specs.declared.request.Request.TheVariants.{GetCapability, Init, Shutdown, GetEstablished, SetLocality, CancelCommand, StoreVolatile, ResetEstablished, GetStateBlob, SetStateBlob, Stop, GetConfig, SetBufferSize}
 use Rattle.ctrl_codec.specs.declared.request.RequestFault.{RequestFault}
@@ -12,7 +12,7 @@ use Rattle.ctrl_codec.specs.Commands.{code_of, command_at}
 use Rattle.ctrl_codec.specs.Numbers.{largest_data}
 
 -- the command of a request
-abbrev pub command_of : Request → Command
+abbrev pub command_of : Request → RequestCode
 command_of GetCapability = command.GetCapability
 command_of (Init flags) = command.Init
 command_of Shutdown = command.Shutdown
@@ -27,23 +27,23 @@ command_of Stop = command.Stop
 command_of GetConfig = command.GetConfig
 command_of (SetBufferSize size) = command.SetBufferSize
 
--- ---- the one spelling of each request
+-- ---- the one encoding of each request
 
 -- a request, the three bytes that nobody looks at, where it has them, and its data
-abbrev pub spelling : Request → List ℕ → List ℕ → List ℕ
-spelling GetCapability ignored payload = number (code_of command.GetCapability)
-spelling (Init flags) ignored payload = number (code_of command.Init) ++ number flags
-spelling Shutdown ignored payload = number (code_of command.Shutdown)
-spelling GetEstablished ignored payload = number (code_of command.GetEstablished)
-spelling (SetLocality locality) ignored payload = number (code_of command.SetLocality) ++ locality ∷ ignored
-spelling CancelCommand ignored payload = number (code_of command.CancelCommand)
-spelling StoreVolatile ignored payload = number (code_of command.StoreVolatile)
-spelling (ResetEstablished locality) ignored payload = number (code_of command.ResetEstablished) ++ locality ∷ ignored
-spelling (GetStateBlob flags kind offset) ignored payload = number (code_of command.GetStateBlob) ++ number flags ++ number kind ++ number offset
-spelling (SetStateBlob flags kind len) ignored payload = number (code_of command.SetStateBlob) ++ number flags ++ number kind ++ number len ++ payload
-spelling Stop ignored payload = number (code_of command.Stop)
-spelling GetConfig ignored payload = number (code_of command.GetConfig)
-spelling (SetBufferSize size) ignored payload = number (code_of command.SetBufferSize) ++ number size
+abbrev pub encode_request : Request → List ℕ → List ℕ → List ℕ
+encode_request GetCapability ignored payload = number (code_of command.GetCapability)
+encode_request (Init flags) ignored payload = number (code_of command.Init) ++ number flags
+encode_request Shutdown ignored payload = number (code_of command.Shutdown)
+encode_request GetEstablished ignored payload = number (code_of command.GetEstablished)
+encode_request (SetLocality locality) ignored payload = number (code_of command.SetLocality) ++ locality ∷ ignored
+encode_request CancelCommand ignored payload = number (code_of command.CancelCommand)
+encode_request StoreVolatile ignored payload = number (code_of command.StoreVolatile)
+encode_request (ResetEstablished locality) ignored payload = number (code_of command.ResetEstablished) ++ locality ∷ ignored
+encode_request (GetStateBlob flags kind offset) ignored payload = number (code_of command.GetStateBlob) ++ number flags ++ number kind ++ number offset
+encode_request (SetStateBlob flags kind len) ignored payload = number (code_of command.SetStateBlob) ++ number flags ++ number kind ++ number len ++ payload
+encode_request Stop ignored payload = number (code_of command.Stop)
+encode_request GetConfig ignored payload = number (code_of command.GetConfig)
+encode_request (SetBufferSize size) ignored payload = number (code_of command.SetBufferSize) ++ number size
 
 -- the data that goes with a request
 abbrev pub HasData : Request → List ℕ → Type 0
@@ -64,7 +64,7 @@ IsInRange q = Unit {0}
 pub record Asks (q : Request) (payload bytes : List ℕ) : Type 0 where
   pub in_range : IsInRange q
   pub has_data : HasData q payload
-  pub spelled : (ignored : List ℕ) × (length ignored ≡ 3) × (bytes ≡ spelling q ignored payload)
+  pub spelled : (ignored : List ℕ) × (length ignored ≡ 3) × (bytes ≡ encode_request q ignored payload)
 
 -- These bytes end with the field for which they are refused: a code outside the profile, or a length above the limit.
 abbrev pub Refuses : RequestFault → List ℕ → Type 0
@@ -72,38 +72,38 @@ Refuses (Code code) bytes = (code < 2 ^ 32) × (command_at code ≡ None) × (by
 Refuses (Length len) bytes = (len < 2 ^ 32) × (largest_data < len) × (flags : ℕ) × (kind : ℕ) × (flags < 2 ^ 32) × (kind < 2 ^ 32)
     × (bytes ≡ number (code_of command.SetStateBlob) ++ number flags ++ number kind ++ number len)
 
--- ---- the same, told from the left
+-- ---- the same, parsed from left to right
 
 -- how a request ends
 abbrev pub Ending : Type 0
 Ending = Result Request RequestFault
 
-abbrev pub whole : Request → Layout Ending
-whole q = Ends (Ok q)
+abbrev pub with_request : Request → Layout Ending
+with_request q = Ends (Ok q)
 
 -- a locality, and three bytes that nobody looks at
 abbrev pub locality_then : (ℕ → Layout Ending) → Layout Ending
 locality_then next = byte_then (λ locality. Field 3 (λ ignored. next locality))
 
 -- the body of a command
-abbrev pub body_of : Command → Layout Ending
-body_of command.GetCapability = whole GetCapability
-body_of command.Init = number_then (λ flags. whole (Init flags))
-body_of command.Shutdown = whole Shutdown
-body_of command.GetEstablished = whole GetEstablished
-body_of command.SetLocality = locality_then (λ locality. whole (SetLocality locality))
-body_of command.CancelCommand = whole CancelCommand
-body_of command.StoreVolatile = whole StoreVolatile
-body_of command.ResetEstablished = locality_then (λ locality. whole (ResetEstablished locality))
-body_of command.GetStateBlob = number_then (λ flags. number_then (λ kind. number_then (λ offset. whole (GetStateBlob flags kind offset))))
+abbrev pub body_of : RequestCode → Layout Ending
+body_of command.GetCapability = with_request GetCapability
+body_of command.Init = number_then (λ flags. with_request (Init flags))
+body_of command.Shutdown = with_request Shutdown
+body_of command.GetEstablished = with_request GetEstablished
+body_of command.SetLocality = locality_then (λ locality. with_request (SetLocality locality))
+body_of command.CancelCommand = with_request CancelCommand
+body_of command.StoreVolatile = with_request StoreVolatile
+body_of command.ResetEstablished = locality_then (λ locality. with_request (ResetEstablished locality))
+body_of command.GetStateBlob = number_then (λ flags. number_then (λ kind. number_then (λ offset. with_request (GetStateBlob flags kind offset))))
 body_of command.SetStateBlob = number_then (λ flags. number_then (λ kind. number_then (λ len.
-    if nat_lt largest_data len then Ends (Err (Length len)) else Field len (λ payload. whole (SetStateBlob flags kind len)))))
-body_of command.Stop = whole Stop
-body_of command.GetConfig = whole GetConfig
-body_of command.SetBufferSize = number_then (λ size. whole (SetBufferSize size))
+    if nat_lt largest_data len then Ends (Err (Length len)) else Field len (λ payload. with_request (SetStateBlob flags kind len)))))
+body_of command.Stop = with_request Stop
+body_of command.GetConfig = with_request GetConfig
+body_of command.SetBufferSize = number_then (λ size. with_request (SetBufferSize size))
 
 -- what follows a code
-abbrev pub body_at : ℕ → Option Command → Layout Ending
+abbrev pub body_at : ℕ → Option RequestCode → Layout Ending
 body_at code None = Ends (Err (Code code))
 body_at code (Some command) = body_of command
 

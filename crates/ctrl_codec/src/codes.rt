@@ -1,4 +1,4 @@
-//! The codes of control requests, by their names in swtpm's manual without the front `CMD_`, and the sizes of our own
+//! The codes of control requests, by their names in swtpm's manual without the start `CMD_`, and the sizes of our own
 //! messages.
 
 /// What the emulator can do.

@@ -28,24 +28,24 @@
 #![tactic(auto)]
 
 mod codes;
-mod command;
-mod fed;
+mod feed_result;
 pub mod laws;
-mod out;
+mod message_buf;
 mod progress;
 mod reply;
 mod reply_grammar;
 mod reply_reader;
 mod request;
+mod request_code;
 mod request_grammar;
 mod request_reader;
 mod writing;
 
 pub use codes::{DATA_PLACE, LARGEST_DATA};
-pub use command::Command;
-pub use out::Out;
+pub use message_buf::Out;
 pub use reply::{Reply, ReplyFault};
 pub use reply_reader::{FedReply, ReplyReader};
 pub use request::{Request, RequestFault};
+pub use request_code::RequestCode;
 pub use request_reader::{FedRequest, RequestReader};
 pub use writing::{write_reply, write_request};

@@ -1,25 +1,25 @@
 // How far a reader of control messages has come, in either direction.
 ghost use Rattle.std.specs.Prelude.{◌≡◌, ◌≤◌, length, [], drop, false};
 ghost use Rattle.vt_base.specs.Layout.{IsOpen};
-ghost use Rattle.ctrl_codec.specs.Progress.{IsTold, IsLeft};
+ghost use Rattle.ctrl_codec.specs.Progress.{AnswerIsExact, IsLeft};
 
 use crate::codes::{DATA_PLACE, LARGEST_DATA, LARGEST_MESSAGE};
-use crate::fed::Fed;
+use crate::feed_result::FeedResult;
 use std::marker::Model;
-use vt_base::{Grammar, Held};
+use vt_base::{ByteBuf, Grammar};
 
 /// The bytes of the message that isn't whole, the data of the last whole one, and whether bytes were refused.
 #[derive(Drop)]
 pub(crate) struct Progress {
-    begun: Held<LARGEST_MESSAGE>,
-    payload: Held<LARGEST_DATA>,
+    begun: ByteBuf<LARGEST_MESSAGE>,
+    payload: ByteBuf<LARGEST_DATA>,
     failed: bool,
 }
 
 impl Model for Progress {
-    ghost use Rattle.ctrl_codec.specs.Reading.{Reading};
+    ghost use Rattle.ctrl_codec.specs.Reading.{ReaderState};
 
-    ghost Value = { Reading };
+    ghost Value = { ReaderState };
 
     ghost view = { λ p. record { begun = p.begun; payload = p.payload; failed = p.failed } };
 }
@@ -29,8 +29,8 @@ impl Progress {
         ensures { result ≡ record { begun = []; payload = []; failed = false } }
     {
         Progress {
-            begun: Held::new(),
-            payload: Held::new(),
+            begun: ByteBuf::new(),
+            payload: ByteBuf::new(),
             failed: false,
         }
     }
@@ -58,31 +58,31 @@ impl Progress {
     }
 
     /// Takes bytes up to the end of one message, or of a field that is refused.
-    pub(crate) fn feed<G, V, F>(&mut self, grammar: &G, piece: &[u8]) -> (usize, Fed<V, F>)
+    pub(crate) fn feed<G, V, F>(&mut self, grammar: &G, piece: &[u8]) -> (usize, FeedResult<V, F>)
     where
         G: Grammar<End = Result<V, F>>,
         requires room { G.room grammar.now ≤ LARGEST_MESSAGE }
         requires open { IsOpen (G.layout grammar.now) self.old.begun }
         ensures within { result.0 ≤ length piece.now }
-        ensures told { IsTold (G.layout grammar.now) self.old piece.now result.0 result.1 }
+        ensures exact { AnswerIsExact (G.layout grammar.now) self.old piece.now result.0 result.1 }
         ensures left { IsLeft self.old piece.now result.0 result.1 self.new }
     {
         if self.failed {
-            return (0, Fed::Failed);
+            return (0, FeedResult::Failed);
         }
         let (used, end) = self.begun.feed(grammar, piece);
         let Some(end) = end else {
-            return (used, Fed::More);
+            return (used, FeedResult::More);
         };
         let fed = match end {
             Ok(message) => {
                 self.payload.clear();
                 self.payload.push(data_of(self.begun.as_slice()));
-                Fed::Whole(message)
+                FeedResult::Whole(message)
             }
             Err(fault) => {
                 self.failed = true;
-                Fed::Refused(fault)
+                FeedResult::Refused(fault)
             }
         };
         self.begun.clear();

@@ -1,22 +1,22 @@
 // Judges replies field by field, each by the command that it answers.
 ghost use Rattle.std.specs.Prelude.{◌≡◌};
-ghost use Rattle.vt_base.specs.Verdict.{judged};
+ghost use Rattle.vt_base.specs.Parsing.{parsed};
 ghost use Rattle.ctrl_codec.specs.Replies.{replies_to, established, blob};
 ghost use Rattle.ctrl_codec.specs.ReplyRoom.{replies_within};
 
 use crate::codes::{FIRST_ZERO, LARGEST_DATA, SECOND_ZERO, THIRD_ZERO};
-use crate::command::Command;
 use crate::reply::{Reply, ReplyFault};
+use crate::request_code::RequestCode;
 use vt_base::{Grammar, Missing, byte_of, field_of, long_of, number_of};
 
 /// The grammar of the replies to a command.
 #[derive(Drop)]
-pub(crate) struct Replies(pub(crate) Command);
+pub(crate) struct Replies(pub(crate) RequestCode);
 
-type Judged = Result<Result<Reply, ReplyFault>, Missing>;
+type Parsed = Result<Result<Reply, ReplyFault>, Missing>;
 
-fn established_of(rest: &[u8]) -> Judged
-    ensures { result ≡ judged established rest.now }
+fn established_of(rest: &[u8]) -> Parsed
+    ensures { result ≡ parsed established rest.now }
 {
     let (result, rest) = number_of(rest)?;
     let (bit, rest) = byte_of(rest)?;
@@ -35,8 +35,8 @@ fn established_of(rest: &[u8]) -> Judged
     Ok(Ok(Reply::Established { result, bit }))
 }
 
-fn blob_of(rest: &[u8]) -> Judged
-    ensures { result ≡ judged blob rest.now }
+fn blob_of(rest: &[u8]) -> Parsed
+    ensures { result ≡ parsed blob rest.now }
 {
     let (result, rest) = number_of(rest)?;
     let (flags, rest) = number_of(rest)?;
@@ -55,22 +55,22 @@ fn blob_of(rest: &[u8]) -> Judged
 }
 
 #[tactic(auto, unfolding(crate::specs::Replies::replies_to))]
-fn reply_of(command: Command, bytes: &[u8]) -> Judged
-    ensures { result ≡ judged (replies_to command) bytes.now }
+fn reply_of(command: RequestCode, bytes: &[u8]) -> Parsed
+    ensures { result ≡ parsed (replies_to command) bytes.now }
 {
     match command {
-        Command::GetCapability => {
+        RequestCode::GetCapability => {
             let (value, _) = long_of(bytes)?;
             Ok(Ok(Reply::Capability { value }))
         }
-        Command::GetEstablished => established_of(bytes),
-        Command::GetStateBlob => blob_of(bytes),
-        Command::GetConfig => {
+        RequestCode::GetEstablished => established_of(bytes),
+        RequestCode::GetStateBlob => blob_of(bytes),
+        RequestCode::GetConfig => {
             let (result, rest) = number_of(bytes)?;
             let (flags, _) = number_of(rest)?;
             Ok(Ok(Reply::Config { result, flags }))
         }
-        Command::SetBufferSize => {
+        RequestCode::SetBufferSize => {
             let (result, rest) = number_of(bytes)?;
             let (size, rest) = number_of(rest)?;
             let (least, rest) = number_of(rest)?;
@@ -100,7 +100,7 @@ impl Grammar for Replies {
 
     ghost within = { λ g. replies_within g.0 };
 
-    fn judge(&self, bytes: &[u8]) -> Judged {
+    fn parse(&self, bytes: &[u8]) -> Parsed {
         reply_of(self.0, bytes)
     }
 }

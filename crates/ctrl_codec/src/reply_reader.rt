@@ -4,11 +4,11 @@ ghost use Rattle.ctrl_codec.specs.Commands.{command_at};
 ghost use Rattle.ctrl_codec.specs.Replies.{Says, RefusesReply, replies_to};
 ghost use Rattle.ctrl_codec.specs.ReplyReading.{reply_answer_of, awaits_after};
 
-use crate::command::Command;
-use crate::fed::Fed;
+use crate::feed_result::FeedResult;
 use crate::progress::Progress;
 use crate::reply::{Reply, ReplyFault};
 use crate::reply_grammar::Replies;
+use crate::request_code::RequestCode;
 use std::marker::Model;
 
 /// What a piece of the stream came to.
@@ -30,17 +30,17 @@ pub enum FedReply {
 /// were refused it answers `Failed` until the next `begin`.
 #[derive(Drop)]
 pub struct ReplyReader {
-    awaits: Option<Command>,
+    awaits: Option<RequestCode>,
     progress: Progress,
 }
 
 impl Model for ReplyReader {
     ghost use Rattle.std.specs.Prelude.{IfSome};
     ghost use Rattle.ctrl_codec.specs.Replies.{replies_to};
-    ghost use Rattle.ctrl_codec.specs.ReplyReading.{ReplyReading, awaiting};
+    ghost use Rattle.ctrl_codec.specs.ReplyReading.{ReplyReaderState, awaiting};
     ghost use Rattle.vt_base.specs.Layout.{IsOpen};
 
-    ghost Value = { ReplyReading };
+    ghost Value = { ReplyReaderState };
 
     ghost view = { λ r. awaiting r.awaits r.progress };
 
@@ -48,7 +48,7 @@ impl Model for ReplyReader {
 }
 
 impl ReplyReader {
-    ghost use Rattle.ctrl_codec.specs.ReplyReading.{IfWholeReply, IfRefusedReply, IfMoreReply, IsReplyUndecided, IsReplyAfter};
+    ghost use Rattle.ctrl_codec.specs.ReplyReading.{IfWholeReply, IfRefusedReply, IfMoreReply, IsReplyUndecided, IsReplyReaderAfter};
 
     /// A reader that awaits no reply.
     pub fn new() -> ReplyReader
@@ -72,7 +72,7 @@ impl ReplyReader {
           failed = false;
         } }
     {
-        self.awaits = Command::from_code(code);
+        self.awaits = RequestCode::from_code(code);
         self.progress.begin();
     }
 
@@ -99,7 +99,7 @@ impl ReplyReader {
         ensures more { IfSome self.old.awaits (λ command. IfMoreReply result.1
             (IsReplyUndecided command (self.old.begun ++ piece.now))) }
         ensures awaits { IfMoreReply result.1 (self.new.awaits ≡ self.old.awaits) }
-        ensures after { IsReplyAfter self.old piece.now result.0 result.1 self.new }
+        ensures after { IsReplyReaderAfter self.old piece.now result.0 result.1 self.new }
     {
         let Some(command) = self.awaits else {
             unreachable!();
@@ -108,19 +108,19 @@ impl ReplyReader {
         (used, self.answer(fed))
     }
 
-    fn answer(&mut self, fed: Fed<Reply, ReplyFault>) -> FedReply
+    fn answer(&mut self, fed: FeedResult<Reply, ReplyFault>) -> FedReply
         ensures answer { result ≡ reply_answer_of fed }
         ensures awaits { self.new ≡ record self.old { awaits = awaits_after fed self.old.awaits } }
     {
         match fed {
-            Fed::More => FedReply::More,
-            Fed::Whole(reply) => {
+            FeedResult::More => FedReply::More,
+            FeedResult::Whole(reply) => {
                 self.awaits = None;
                 FedReply::Whole(reply)
             }
-            Fed::Refused(ReplyFault::Length(length)) => FedReply::BadLength(length),
-            Fed::Refused(ReplyFault::Value(place)) => FedReply::BadValue(place),
-            Fed::Failed => FedReply::Failed,
+            FeedResult::Refused(ReplyFault::Length(length)) => FedReply::BadLength(length),
+            FeedResult::Refused(ReplyFault::Value(place)) => FedReply::BadValue(place),
+            FeedResult::Failed => FedReply::Failed,
         }
     }
 }

@@ -1,7 +1,7 @@
 // Control requests.
 ghost use Rattle.std.specs.Prelude.{◌≡◌};
 
-use crate::command::Command;
+use crate::request_code::RequestCode;
 use std::fmt;
 
 /// A control request, without the data that goes with it. The commands are swtpm's, the bodies our own.
@@ -39,23 +39,23 @@ impl Request {
     ghost use Rattle.ctrl_codec.specs.Requests.{command_of};
 
     /// The command of this request.
-    pub fn command(&self) -> Command
+    pub fn command(&self) -> RequestCode
         ensures { result ≡ command_of self.now }
     {
         match self {
-            Request::GetCapability => Command::GetCapability,
-            Request::Init { .. } => Command::Init,
-            Request::Shutdown => Command::Shutdown,
-            Request::GetEstablished => Command::GetEstablished,
-            Request::SetLocality { .. } => Command::SetLocality,
-            Request::CancelCommand => Command::CancelCommand,
-            Request::StoreVolatile => Command::StoreVolatile,
-            Request::ResetEstablished { .. } => Command::ResetEstablished,
-            Request::GetStateBlob { .. } => Command::GetStateBlob,
-            Request::SetStateBlob { .. } => Command::SetStateBlob,
-            Request::Stop => Command::Stop,
-            Request::GetConfig => Command::GetConfig,
-            Request::SetBufferSize { .. } => Command::SetBufferSize,
+            Request::GetCapability => RequestCode::GetCapability,
+            Request::Init { .. } => RequestCode::Init,
+            Request::Shutdown => RequestCode::Shutdown,
+            Request::GetEstablished => RequestCode::GetEstablished,
+            Request::SetLocality { .. } => RequestCode::SetLocality,
+            Request::CancelCommand => RequestCode::CancelCommand,
+            Request::StoreVolatile => RequestCode::StoreVolatile,
+            Request::ResetEstablished { .. } => RequestCode::ResetEstablished,
+            Request::GetStateBlob { .. } => RequestCode::GetStateBlob,
+            Request::SetStateBlob { .. } => RequestCode::SetStateBlob,
+            Request::Stop => RequestCode::Stop,
+            Request::GetConfig => RequestCode::GetConfig,
+            Request::SetBufferSize { .. } => RequestCode::SetBufferSize,
         }
     }
 }

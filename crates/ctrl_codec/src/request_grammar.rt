@@ -1,22 +1,22 @@
 // Judges control requests field by field.
 ghost use Rattle.std.specs.Prelude.{◌≡◌};
-ghost use Rattle.vt_base.specs.Verdict.{judged};
+ghost use Rattle.vt_base.specs.Parsing.{parsed};
 ghost use Rattle.ctrl_codec.specs.Requests.{requests, body_of};
 ghost use Rattle.ctrl_codec.specs.RequestRoom.{requests_within};
-ghost use Rattle.ctrl_codec.specs.declared.command.Command.TheVariants.{GetStateBlob, SetStateBlob};
+ghost use Rattle.ctrl_codec.specs.declared.request_code.RequestCode.TheVariants.{GetStateBlob, SetStateBlob};
 
 use crate::codes::{IGNORED, LARGEST_DATA};
-use crate::command::Command;
 use crate::request::{Request, RequestFault};
+use crate::request_code::RequestCode;
 use vt_base::{Grammar, Missing, byte_of, field_of, number_of};
 
 /// The grammar of control requests.
 pub(crate) struct Requests;
 
-type Judged = Result<Result<Request, RequestFault>, Missing>;
+type Parsed = Result<Result<Request, RequestFault>, Missing>;
 
-fn asked_for_blob(rest: &[u8]) -> Judged
-    ensures { result ≡ judged (body_of GetStateBlob) rest.now }
+fn asked_for_blob(rest: &[u8]) -> Parsed
+    ensures { result ≡ parsed (body_of GetStateBlob) rest.now }
 {
     let (flags, rest) = number_of(rest)?;
     let (kind, rest) = number_of(rest)?;
@@ -28,8 +28,8 @@ fn asked_for_blob(rest: &[u8]) -> Judged
     }))
 }
 
-fn given_blob(rest: &[u8]) -> Judged
-    ensures { result ≡ judged (body_of SetStateBlob) rest.now }
+fn given_blob(rest: &[u8]) -> Parsed
+    ensures { result ≡ parsed (body_of SetStateBlob) rest.now }
 {
     let (flags, rest) = number_of(rest)?;
     let (kind, rest) = number_of(rest)?;
@@ -45,34 +45,34 @@ fn given_blob(rest: &[u8]) -> Judged
     }))
 }
 
-fn request_of(command: Command, rest: &[u8]) -> Judged
-    ensures { result ≡ judged (body_of command) rest.now }
+fn request_of(command: RequestCode, rest: &[u8]) -> Parsed
+    ensures { result ≡ parsed (body_of command) rest.now }
 {
     Ok(Ok(match command {
-        Command::GetCapability => Request::GetCapability,
-        Command::Init => {
+        RequestCode::GetCapability => Request::GetCapability,
+        RequestCode::Init => {
             let (flags, _) = number_of(rest)?;
             Request::Init { flags }
         }
-        Command::Shutdown => Request::Shutdown,
-        Command::GetEstablished => Request::GetEstablished,
-        Command::SetLocality => {
+        RequestCode::Shutdown => Request::Shutdown,
+        RequestCode::GetEstablished => Request::GetEstablished,
+        RequestCode::SetLocality => {
             let (locality, rest) = byte_of(rest)?;
             let _ignored = field_of(rest, IGNORED)?;
             Request::SetLocality { locality }
         }
-        Command::CancelCommand => Request::CancelCommand,
-        Command::StoreVolatile => Request::StoreVolatile,
-        Command::ResetEstablished => {
+        RequestCode::CancelCommand => Request::CancelCommand,
+        RequestCode::StoreVolatile => Request::StoreVolatile,
+        RequestCode::ResetEstablished => {
             let (locality, rest) = byte_of(rest)?;
             let _ignored = field_of(rest, IGNORED)?;
             Request::ResetEstablished { locality }
         }
-        Command::GetStateBlob => return asked_for_blob(rest),
-        Command::SetStateBlob => return given_blob(rest),
-        Command::Stop => Request::Stop,
-        Command::GetConfig => Request::GetConfig,
-        Command::SetBufferSize => {
+        RequestCode::GetStateBlob => return asked_for_blob(rest),
+        RequestCode::SetStateBlob => return given_blob(rest),
+        RequestCode::Stop => Request::Stop,
+        RequestCode::GetConfig => Request::GetConfig,
+        RequestCode::SetBufferSize => {
             let (size, _) = number_of(rest)?;
             Request::SetBufferSize { size }
         }
@@ -91,9 +91,9 @@ impl Grammar for Requests {
     ghost within = { λ _. requests_within };
 
     #[tactic(auto, unfolding(crate::specs::Requests::requests))]
-    fn judge(&self, bytes: &[u8]) -> Judged {
+    fn parse(&self, bytes: &[u8]) -> Parsed {
         let (code, rest) = number_of(bytes)?;
-        match Command::from_code(code) {
+        match RequestCode::from_code(code) {
             Some(command) => request_of(command, rest),
             None => Ok(Err(RequestFault::Code(code))),
         }

@@ -3,7 +3,7 @@ ghost use Rattle.std.specs.Prelude.{◌≡◌, ◌≤◌, ◌++◌, length, [], 
 ghost use Rattle.ctrl_codec.specs.Requests.{Asks, Refuses};
 ghost use Rattle.ctrl_codec.specs.RequestReading.{answer_of};
 
-use crate::fed::Fed;
+use crate::feed_result::FeedResult;
 use crate::progress::Progress;
 use crate::request::{Request, RequestFault};
 use crate::request_grammar::Requests;
@@ -32,11 +32,11 @@ pub struct RequestReader {
 }
 
 impl Model for RequestReader {
-    ghost use Rattle.ctrl_codec.specs.Reading.{Reading};
+    ghost use Rattle.ctrl_codec.specs.Reading.{ReaderState};
     ghost use Rattle.ctrl_codec.specs.Requests.{requests};
     ghost use Rattle.vt_base.specs.Layout.{IsOpen};
 
-    ghost Value = { Reading };
+    ghost Value = { ReaderState };
 
     ghost view = { λ r. r.progress.value };
 
@@ -44,9 +44,9 @@ impl Model for RequestReader {
 }
 
 impl RequestReader {
-    ghost use Rattle.ctrl_codec.specs.RequestReading.{IfWhole, IfRefused, IfMore, IsUndecided, IsAfter};
+    ghost use Rattle.ctrl_codec.specs.RequestReading.{IfWhole, IfRefused, IfMore, IsUndecided, IsReaderAfter};
 
-    /// A reader at the begin of a stream. All memory that it needs is taken here.
+    /// A reader at the beginning of a stream. All memory that it needs is taken here.
     #[tactic(auto, using(crate::proofs::Requests::open_nil))]
     pub fn new(alloc: Global) -> Result<RequestReader, AllocError>
         ensures { IfOk result (λ r. r ≡ record { begun = []; payload = []; failed = false }) }
@@ -56,7 +56,7 @@ impl RequestReader {
         })
     }
 
-    /// Makes the reader as `new` does, at the begin of another stream.
+    /// Makes the reader as `new` does, at the beginning of another stream.
     #[tactic(auto, using(crate::proofs::Requests::open_nil))]
     pub fn clear(&mut self)
         ensures { self.new ≡ record { begun = []; payload = []; failed = false } }
@@ -84,21 +84,21 @@ impl RequestReader {
 
         // In the bytes so far, the whole piece among them, no request is whole and no field is refused.
         ensures more { IfMore result.1 (IsUndecided (self.old.begun ++ piece.now)) }
-        ensures after { IsAfter self.old piece.now result.0 result.1 self.new }
+        ensures after { IsReaderAfter self.old piece.now result.0 result.1 self.new }
     {
         let (used, fed) = self.progress.feed(&Requests, piece);
         (used, answer(fed))
     }
 }
 
-fn answer(fed: Fed<Request, RequestFault>) -> FedRequest
+fn answer(fed: FeedResult<Request, RequestFault>) -> FedRequest
     ensures { result ≡ answer_of fed }
 {
     match fed {
-        Fed::More => FedRequest::More,
-        Fed::Whole(request) => FedRequest::Whole(request),
-        Fed::Refused(RequestFault::Code(code)) => FedRequest::BadCode(code),
-        Fed::Refused(RequestFault::Length(length)) => FedRequest::BadLength(length),
-        Fed::Failed => FedRequest::Failed,
+        FeedResult::More => FedRequest::More,
+        FeedResult::Whole(request) => FedRequest::Whole(request),
+        FeedResult::Refused(RequestFault::Code(code)) => FedRequest::BadCode(code),
+        FeedResult::Refused(RequestFault::Length(length)) => FedRequest::BadLength(length),
+        FeedResult::Failed => FedRequest::Failed,
     }
 }

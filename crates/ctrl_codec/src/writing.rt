@@ -1,9 +1,9 @@
 // Writes control messages.
 ghost use Rattle.std.specs.Prelude.{◌≡◌, ◌∷◌, []};
-ghost use Rattle.ctrl_codec.specs.Requests.{HasData, spelling};
-ghost use Rattle.ctrl_codec.specs.Replies.{ReplyHasData, reply_spelling};
+ghost use Rattle.ctrl_codec.specs.Requests.{HasData, encode_request};
+ghost use Rattle.ctrl_codec.specs.Replies.{ReplyHasData, encode_reply};
 
-use crate::out::Out;
+use crate::message_buf::Out;
 use crate::reply::Reply;
 use crate::request::Request;
 
@@ -11,7 +11,7 @@ use crate::request::Request;
 pub fn write_request(q: &Request, tail: &[u8], into: &mut Out)
     requires empty { into.old ≡ [] }
     requires data { HasData q.now tail.now }
-    ensures { into.new ≡ spelling q.now (0 ∷ 0 ∷ 0 ∷ []) tail.now }
+    ensures { into.new ≡ encode_request q.now (0 ∷ 0 ∷ 0 ∷ []) tail.now }
 {
     into.push_number(q.command().code());
     match *q {
@@ -52,7 +52,7 @@ pub fn write_request(q: &Request, tail: &[u8], into: &mut Out)
 pub fn write_reply(r: &Reply, tail: &[u8], into: &mut Out)
     requires empty { into.old ≡ [] }
     requires data { ReplyHasData r.now tail.now }
-    ensures { into.new ≡ reply_spelling r.now tail.now }
+    ensures { into.new ≡ encode_reply r.now tail.now }
 {
     match *r {
         Reply::Capability { value } => into.push_long(value),

@@ -3,8 +3,8 @@ pub mod Decided
 pub mod Reasons
 pub mod Room
 pub mod Rows
-pub mod Told
+pub mod Decoding
 pub mod Trims
 pub mod Values
-pub mod Marked
+pub mod MagicRead
 pub mod Lengths

@@ -5,17 +5,17 @@ use Rattle.std.proofs.lemmas.Bool.Decides.{nat_tests}
 use Rattle.std.specs.Int.{w16, w32, from_be_bytes}
 use Rattle.vt_base.specs.declared.grammar.Missing.{Missing}
 use Rattle.vt_base.specs.Layout.{Layout, Ends, IsWithin, long_then}
-use Rattle.vt_base.specs.Verdict.{judged}
+use Rattle.vt_base.specs.Parsing.{parsed}
 use Rattle.vt_base.specs.Refusing.{refuse}
-use Rattle.vt_base.specs.Within.{either_within, mark_within}
+use Rattle.vt_base.specs.Within.{either_within, magic_byte_within}
 use Rattle.vt_base.proofs.Layouts.{wants_within}
-use Rattle.vt_base.specs.declared.words.Why.TheVariants.{Magic, Version, Length, Value}
+use Rattle.vt_base.specs.declared.types.Why.TheVariants.{Magic, Version, Length, Value}
 use Rattle.crb_regs.specs.Registers.{is_idle, is_executing}
 use Rattle.crb_regs.specs.declared.registers.Regs.{Regs}
 use Rattle.device_record.specs.declared.fields.Fields.{Fields}
 use Rattle.device_record.specs.Records.{flag_at, phase_at}
 use Rattle.device_record.specs.Layouts.{Ending, value_then, flag_then, ends_in_zero, content_then, count_then, job_then, registers_then, length_then, record_layout}
-use Rattle.device_record.proofs.Told.{idle_next, mark_next, phase_next, cancel_next, granted_next}
+use Rattle.device_record.proofs.Decoding.{idle_next, magic_byte_next, phase_next, cancel_next, granted_next}
 
 value_within : {X : Type 0} (found : Option X) (place : ℕ) (next : X → Layout Ending) (room : ℕ) → ((value : X) → IsWithin (next value) room) → IsWithin (value_then found place next) room
 value_within None place next room each = tt
@@ -25,10 +25,10 @@ flag_within : (place : ℕ) (next : Bool → Layout Ending) (room : ℕ) → 1 �
 flag_within place next room some each = (some, λ field. value_within (flag_at (slice_index field 0)) place next (room - 1) each)
 
 content_within : (f : Fields) → f.count ≤ 3968 → IsWithin (content_then f) 3968
-content_within f few = (few, λ content. either_within (ends_in_zero content) (refuse Value (22 + f.count)) (Ends (Ok f)) (3968 - f.count) (λ _. tt) (λ _. tt))
+content_within f within_limit = (within_limit, λ content. either_within (ends_in_zero content) (refuse Value (22 + f.count)) (Ends (Ok f)) (3968 - f.count) (λ _. tt) (λ _. tt))
 
-few : (size count : ℕ) → size ≤ 3982 → not (eqb (14 + count) size) ≡ false → count ≤ 3968
-few size count le is = grind (arith, nat_tests)
+within_limit : (size count : ℕ) → size ≤ 3982 → not (eqb (14 + count) size) ≡ false → count ≤ 3968
+within_limit size count le is = grind (arith, nat_tests)
 
 count_within : (size : ℕ) (regs : Regs) (cancelled : Bool) (number : ℕ) → size ≤ 3982 → IsWithin (count_then size regs cancelled number) 3970
 count_within size regs cancelled number le = (
@@ -36,11 +36,11 @@ count_within size regs cancelled number le = (
   λ field.
       let f : Fields = record { regs = regs; cancelled = cancelled; number = number; count = from_be_bytes w16 field } in
       either_within (not (eqb (14 + f.count) size)) (refuse Length 21) (idle_next f) 3968 (λ _. tt) (λ is.
-      either_within (is_idle regs.phase && nat_lt 0 f.count) (refuse Value 21) (content_then f) 3968 (λ _. tt) (λ _. content_within f (few size f.count le is))),
+      either_within (is_idle regs.phase && nat_lt 0 f.count) (refuse Value 21) (content_then f) 3968 (λ _. tt) (λ _. content_within f (within_limit size f.count le is))),
 )
 
 job_within : (size : ℕ) (regs : Regs) → size ≤ 3982 → IsWithin (job_then size regs) 3979
-job_within size regs le = flag_within 12 (mark_next size regs) 3979 (omega arith) (λ cancelled.
+job_within size regs le = flag_within 12 (magic_byte_next size regs) 3979 (omega arith) (λ cancelled.
     either_within (cancelled && not (is_executing regs.phase)) (refuse Value 12) (long_then (λ number. count_then size regs cancelled number)) 3978 (λ _. tt)
     (λ _. (omega arith, λ field. count_within size regs cancelled _ le)))
 
@@ -63,9 +63,9 @@ length_within = (
 pub record_within : IsWithin record_layout 3991
 unfolding record_layout
 record_within =
-    mark_within 67 Magic 0 _ 3991 (omega arith) (mark_within 82 Magic 1 _ 3990 (omega arith) (mark_within 66 Magic 2 _ 3989 (omega arith) (mark_within 68 Magic 3 _ 3988 (omega arith)
-    (mark_within 1 Version 4 length_then 3987 (omega arith) length_within))))
+    magic_byte_within 67 Magic 0 _ 3991 (omega arith) (magic_byte_within 82 Magic 1 _ 3990 (omega arith) (magic_byte_within 66 Magic 2 _ 3989 (omega arith) (magic_byte_within 68 Magic 3 _ 3988 (omega arith)
+    (magic_byte_within 1 Version 4 length_then 3987 (omega arith) length_within))))
 
 -- Bytes that are cut are fewer.
-pub cut_is_short : (bytes : List ℕ) (lack : Missing) → judged record_layout bytes ≡ Err lack → length bytes ≤ 3991
+pub cut_is_short : (bytes : List ℕ) (lack : Missing) → parsed record_layout bytes ≡ Err lack → length bytes ≤ 3991
 cut_is_short bytes lack is = let all = wants_within record_layout 3991 bytes lack.0 record_within is in omega (arith, all)

@@ -5,13 +5,13 @@ use Rattle.std.specs.Int.{w16, w32, w64, from_be_bytes}
 use Rattle.std.proofs.lemmas.Bool.{cases_lt, le-ltb, lt-ltb, ne_eqb}
 use Rattle.std.proofs.Math.Bool.{and_comm}
 use Rattle.std.proofs.lemmas.List.{length-drop, length-take, drop-drop, take-append-drop, get_or-take, get_or-drop}
-use Rattle.vt_base.specs.Layout.{Layout, Ends, Field, Spells, byte_then, long_then}
-use Rattle.vt_base.specs.Verdict.{field_at, judged}
-use Rattle.vt_base.specs.Refusing.{malformed, refuse, mark_then}
-use Rattle.vt_base.proofs.Layouts.{spells_front, judged_spells, judged-append-ended}
-use Rattle.vt_base.specs.declared.words.Why.{Why}
-use Rattle.vt_base.specs.declared.words.Why.TheVariants.{Magic, Version, Length, Value}
-use Rattle.vt_base.specs.declared.words.Malformed.{Malformed}
+use Rattle.vt_base.specs.Layout.{Layout, Ends, Field, Encodes, byte_then, long_then}
+use Rattle.vt_base.specs.Parsing.{field_at, parsed}
+use Rattle.vt_base.specs.Refusing.{malformed, refuse, magic_byte_then}
+use Rattle.vt_base.proofs.Layouts.{encodes_prefix, parsed_encodes, parsed-append-ended}
+use Rattle.vt_base.specs.declared.types.Why.{Why}
+use Rattle.vt_base.specs.declared.types.Why.TheVariants.{Magic, Version, Length, Value}
+use Rattle.vt_base.specs.declared.types.Malformed.{Malformed}
 use Rattle.crb_regs.specs.Registers.{is_idle, is_executing}
 use Rattle.crb_regs.specs.declared.phase.Phase.{Phase}
 use Rattle.crb_regs.specs.declared.registers.Regs.{Regs}
@@ -19,18 +19,18 @@ use Rattle.device_record.specs.declared.fields.Fields.{Fields}
 use Rattle.device_record.specs.Records.{flag_at, phase_at}
 use Rattle.device_record.specs.Layouts.{Ending, value_then, ends_in_zero, content_then, count_then, job_then, registers_then, length_then, record_layout, HasRefusedField}
 use Rattle.device_record.specs.Rows.{Row, after, rows, first_bad, first_refused}
-use Rattle.device_record.proofs.Told.{idle_next, count_next, mark_next, phase_next, cancel_next, granted_next, size_next}
-use Rattle.device_record.proofs.Decided.{Verdict}
+use Rattle.device_record.proofs.Decoding.{idle_next, count_next, magic_byte_next, phase_next, cancel_next, granted_next, size_next}
+use Rattle.device_record.proofs.Decided.{ParseOutcome}
 
 -- what a verdict refuses
-abbrev refusal : Verdict → Option Malformed
+abbrev refusal : ParseOutcome → Option Malformed
 refusal (Ok (Err fault)) = Some fault
 refusal (Ok (Ok f)) = None
 refusal (Err lack) = None
 
 -- what a layout refuses in these bytes
 abbrev refused_in : Layout Ending → List ℕ → Option Malformed
-refused_in layout bytes = refusal (judged layout bytes)
+refused_in layout bytes = refusal (parsed layout bytes)
 
 -- ---- a field, and the row that it has
 
@@ -183,8 +183,8 @@ job_by_rows : (regs : Regs) (bytes : List ℕ) → is_executing regs.phase ≡ e
 job_by_rows regs bytes executing idle =
     let fault = Some (malformed Value 12) in
     let later = refused_from 10 bytes in
-    byte_row 12 (λ byte. value_then (flag_at byte) 12 (mark_next (size_in bytes) regs)) bytes _ (rows_from 10 bytes) refl
-    (flag_row (slice_index bytes 12) 12 (mark_next (size_in bytes) regs) (drop 13 bytes) (λ flag. cond (flag && not (eqb (slice_index bytes 11) 3)) fault later) (λ flag.
+    byte_row 12 (λ byte. value_then (flag_at byte) 12 (magic_byte_next (size_in bytes) regs)) bytes _ (rows_from 10 bytes) refl
+    (flag_row (slice_index bytes 12) 12 (magic_byte_next (size_in bytes) regs) (drop 13 bytes) (λ flag. cond (flag && not (eqb (slice_index bytes 11) 3)) fault later) (λ flag.
     refused_if (flag && not (is_executing regs.phase)) Value 12 (long_then (λ number. count_then (size_in bytes) regs flag number)) (drop 13 bytes) later (λ _.
     field_before 13 8 (λ field. count_then (size_in bytes) regs flag (from_be_bytes w64 field)) bytes _ (rows_from 11 bytes) (λ _. omega arith) (omega arith) (λ _. count_by_rows regs flag _ bytes idle))
     ∙ ap (λ (t : Bool). cond (flag && not t) fault later) executing)
@@ -208,9 +208,9 @@ length_by_rows bytes =
     refused_if (nat_lt size 14 || nat_lt 3982 size) Length 5 (registers_then size) (drop 9 bytes) (refused_from 6 bytes) (λ _. registers_by_rows bytes))
 
 -- a byte of the magic, or the version
-mark_row : (mark : ℕ) (why : Why) (place : ℕ) (next : Layout Ending) (bytes : List ℕ) (rest : List Row) → refused_in next (drop (place + 1) bytes) ≡ first_bad (length bytes) rest
-    → refused_in (mark_then mark why place next) (drop place bytes) ≡ first_bad (length bytes) (after (place + 1) (not (eqb (slice_index bytes place) mark)) why place ∷ rest)
-mark_row mark why place next bytes rest behind =
+magic_byte_row : (mark : ℕ) (why : Why) (place : ℕ) (next : Layout Ending) (bytes : List ℕ) (rest : List Row) → refused_in next (drop (place + 1) bytes) ≡ first_bad (length bytes) rest
+    → refused_in (magic_byte_then mark why place next) (drop place bytes) ≡ first_bad (length bytes) (after (place + 1) (not (eqb (slice_index bytes place) mark)) why place ∷ rest)
+magic_byte_row mark why place next bytes rest behind =
     byte_row place (λ b. cond (eqb b mark) next (refuse why place)) bytes _ rest refl
     (refused_unless (eqb (slice_index bytes place) mark) why place next (drop (place + 1) bytes) (first_bad (length bytes) rest) behind)
 
@@ -218,29 +218,29 @@ mark_row mark why place next bytes rest behind =
 by_rows : (bytes : List ℕ) → refused_in record_layout bytes ≡ first_refused bytes
 unfolding record_layout first_refused
 by_rows bytes =
-    mark_row 67 Magic 0 _ bytes (rows_from 1 bytes) (mark_row 82 Magic 1 _ bytes (rows_from 2 bytes)
-    (mark_row 66 Magic 2 _ bytes (rows_from 3 bytes) (mark_row 68 Magic 3 _ bytes (rows_from 4 bytes)
-    (mark_row 1 Version 4 length_then bytes (rows_from 5 bytes) (length_by_rows bytes)))))
+    magic_byte_row 67 Magic 0 _ bytes (rows_from 1 bytes) (magic_byte_row 82 Magic 1 _ bytes (rows_from 2 bytes)
+    (magic_byte_row 66 Magic 2 _ bytes (rows_from 3 bytes) (magic_byte_row 68 Magic 3 _ bytes (rows_from 4 bytes)
+    (magic_byte_row 1 Version 4 length_then bytes (rows_from 5 bytes) (length_by_rows bytes)))))
 
 -- ---- a field that is refused
 
--- what refuses a front refuses all bytes
-refused_at : (fault : Malformed) (bytes : List ℕ) (n : ℕ) → Spells record_layout (Err fault) (take n bytes) → judged record_layout bytes ≡ Ok (Err fault)
-refused_at fault bytes n told =
-    subst (λ (all : List ℕ). judged record_layout all ≡ Ok (Err fault)) (take-append-drop n bytes)
-    (judged-append-ended record_layout (take n bytes) (drop n bytes) (Err fault) (judged_spells record_layout (take n bytes) (Err fault) told))
+-- what refuses a prefix refuses all bytes
+refused_at : (fault : Malformed) (bytes : List ℕ) (n : ℕ) → Encodes record_layout (Err fault) (take n bytes) → parsed record_layout bytes ≡ Ok (Err fault)
+refused_at fault bytes n exact =
+    subst (λ (all : List ℕ). parsed record_layout all ≡ Ok (Err fault)) (take-append-drop n bytes)
+    (parsed-append-ended record_layout (take n bytes) (drop n bytes) (Err fault) (parsed_encodes record_layout (take n bytes) (Err fault) exact))
 
-refusal_of : (verdict : Verdict) (fault : Malformed) → refusal verdict ≡ Some fault → verdict ≡ Ok (Err fault)
+refusal_of : (outcome_of_parse : ParseOutcome) (fault : Malformed) → refusal outcome_of_parse ≡ Some fault → outcome_of_parse ≡ Ok (Err fault)
 refusal_of (Ok (Err other)) fault is = let same : other ≡ fault = cc in rw same refl
 refusal_of (Ok (Ok f)) fault is = absurd cc
 refusal_of (Err lack) fault is = absurd cc
 
 -- A refused field is that of the first row that holds.
-pub refused_by_rows : (fault : Malformed) (bytes : List ℕ) (n : ℕ) → Spells record_layout (Err fault) (take n bytes) → first_refused bytes ≡ Some fault
-refused_by_rows fault bytes n told = sym (by_rows bytes) ∙ ap refusal (refused_at fault bytes n told)
+pub refused_by_rows : (fault : Malformed) (bytes : List ℕ) (n : ℕ) → Encodes record_layout (Err fault) (take n bytes) → first_refused bytes ≡ Some fault
+refused_by_rows fault bytes n exact = sym (by_rows bytes) ∙ ap refusal (refused_at fault bytes n exact)
 
 -- And where a row holds, the field of the first is refused.
 pub rows_refuse : (fault : Malformed) (bytes : List ℕ) → first_refused bytes ≡ Some fault → HasRefusedField fault bytes
 rows_refuse fault bytes is =
-    let front = spells_front record_layout bytes (Err fault) (refusal_of (judged record_layout bytes) fault (by_rows bytes ∙ is)) in
-    (front.0, front.2)
+    let prefix = encodes_prefix record_layout bytes (Err fault) (refusal_of (parsed record_layout bytes) fault (by_rows bytes ∙ is)) in
+    (prefix.0, prefix.2)

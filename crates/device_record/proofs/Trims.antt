@@ -32,8 +32,8 @@ trimmed_step bytes zero some le is = absurd (omega arith)
 trimmed_step bytes (suc count) some le is =
     let less : suc count - 1 ≡ count = omega arith in
     let zero_there : get_or bytes count 0 ≡ 0 = subst (λ (k : ℕ). get_or bytes k 0 ≡ 0) less is in
-    let front : take (suc count) bytes ≡ take count bytes ++ 0 ∷ [] = one_more bytes count (omega arith) ∙ ap (λ (b : ℕ). take count bytes ++ b ∷ []) zero_there in
-    ap (λ (k : ℕ). trimmed (take k bytes)) less ∙ sym (ap trimmed front ∙ trimmed-zero (take count bytes))
+    let prefix : take (suc count) bytes ≡ take count bytes ++ 0 ∷ [] = one_more bytes count (omega arith) ∙ ap (λ (b : ℕ). take count bytes ++ b ∷ []) zero_there in
+    ap (λ (k : ℕ). trimmed (take k bytes)) less ∙ sym (ap trimmed prefix ∙ trimmed-zero (take count bytes))
 
 -- where the last byte isn't 0, nothing is left out
 pub trimmed_there : (bytes : List ℕ) (count : ℕ) → 0 < count → count ≤ length bytes → get_or bytes (count - 1) 0 ≢ 0 → trimmed (take count bytes) ≡ take count bytes
@@ -41,8 +41,8 @@ trimmed_there bytes zero some le other = absurd (omega arith)
 trimmed_there bytes (suc count) some le other =
     let less : suc count - 1 ≡ count = omega arith in
     let kept : get_or bytes count 0 ≢ 0 = subst (λ (k : ℕ). get_or bytes k 0 ≢ 0) less other in
-    let front : take (suc count) bytes ≡ take count bytes ++ get_or bytes count 0 ∷ [] = one_more bytes count (omega arith) in
-    ap trimmed front ∙ trimmed-other (take count bytes) (get_or bytes count 0) kept ∙ sym front
+    let prefix : take (suc count) bytes ≡ take count bytes ++ get_or bytes count 0 ∷ [] = one_more bytes count (omega arith) in
+    ap trimmed prefix ∙ trimmed-other (take count bytes) (get_or bytes count 0) kept ∙ sym prefix
 
 -- where the search ends, what is before it is what is kept
 pub trimmed_end : (bytes : List ℕ) (count : ℕ) → count ≤ length bytes → trimmed (take count bytes) ≡ trimmed bytes → (0 < count → get_or bytes (count - 1) 0 ≢ 0) → take count bytes ≡ trimmed bytes
@@ -151,7 +151,7 @@ pub trimmed_ends : (bytes : List ℕ) → ends_in_zero (trimmed bytes) ≡ false
 trimmed_ends [] = refl
 trimmed_ends (b ∷ bytes) = before_nonzero b (trimmed bytes) (trimmed_ends bytes)
 
--- what is kept is a front
-pub trimmed_front : (bytes : List ℕ) → take (length (trimmed bytes)) bytes ≡ trimmed bytes
-trimmed_front bytes =
+-- what is kept is a prefix
+pub trimmed_prefix : (bytes : List ℕ) → take (length (trimmed bytes)) bytes ≡ trimmed bytes
+trimmed_prefix bytes =
     ap (take (length (trimmed bytes))) (sym (zeros_again bytes)) ∙ take_at (trimmed bytes) (replicate (length bytes - length (trimmed bytes)) 0) (length (trimmed bytes)) refl

@@ -1,23 +1,23 @@
--- The values that records tell.
+-- The values that records give.
 use Rattle.std.proofs.Common.{◌≡◌, ℕ, ◌+◌, ◌-◌, ◌≤◌, Bool, true, false, List, [], ◌++◌, length, take, drop, Ok, refl, sym, ap, subst, ◌∙◌, arith}
 use Rattle.std.proofs.lemmas.List.{length-take, nil_from_length, take_rest}
 use Rattle.vt_base.specs.Buffer.{zeros, followed_by_zeros}
 use Rattle.vt_base.specs.Numbers.{IsBytes}
-use Rattle.vt_base.specs.Layout.{Spells}
+use Rattle.vt_base.specs.Layout.{Encodes}
 use Rattle.vt_base.proofs.Numbers.{IsBytes-take, IsBytes-append}
 use Rattle.vt_base.proofs.Zeros.{get_or-zeros, length-followed_by_zeros}
-use Rattle.vt_base.proofs.Layouts.{one_spelling}
+use Rattle.vt_base.proofs.Layouts.{one_encoding}
 use Rattle.crb_regs.specs.Registers.{is_idle, is_executing, is_lost}
 use Rattle.crb_regs.specs.declared.phase.Phase.{Phase}
 use Rattle.crb_regs.specs.declared.phase.Phase.TheVariants.{Idle, Ready, Reception, Execution, Completion, Lost}
 use Rattle.crb_machine.specs.Model.{DeviceModel}
-use Rattle.crb_machine.specs.Values.{with_values, DeviceValues, AreFit}
+use Rattle.crb_machine.specs.Values.{with_values, DeviceValues, AreValid}
 use Rattle.device_record.specs.declared.fields.Fields.{Fields}
-use Rattle.device_record.specs.Records.{trimmed, fields_of, values_of, header_text, record_text, IsRecord}
+use Rattle.device_record.specs.Records.{trimmed, fields_of, values_of, encode_header, encode_record, IsRecord}
 use Rattle.device_record.specs.Layouts.{record_layout}
 use Rattle.device_record.specs.Restoring.{Restores}
-use Rattle.device_record.proofs.Trims.{trimmed_back, trimmed-followed, trimmed_nothing, length-trimmed, trimmed_whole, trimmed_ends, trimmed_front}
-use Rattle.device_record.proofs.Told.{AreWhole, wholly, record_told, record_spelled}
+use Rattle.device_record.proofs.Trims.{trimmed_back, trimmed-followed, trimmed_nothing, length-trimmed, trimmed_whole, trimmed_ends, trimmed_prefix}
+use Rattle.device_record.proofs.Decoding.{AreWhole, wholly, record_decoded, record_encoded}
 
 idle_is : (phase : Phase) → is_idle phase ≡ true → phase ≡ Idle
 idle_is Idle is = refl
@@ -29,7 +29,7 @@ executing_is _ is = absurd cc
 
 -- ---- from values to a record
 
-fields_are_whole : (v : DeviceValues) → AreFit v → AreWhole (fields_of v) (trimmed v.content)
+fields_are_whole : (v : DeviceValues) → AreValid v → AreWhole (fields_of v) (trimmed v.content)
 fields_are_whole v fit = record {
   working = fit.working;
   waits = λ is. ap is_executing (fit.waits is);
@@ -38,16 +38,16 @@ fields_are_whole v fit = record {
   idle = λ is. ap (λ (bytes : List ℕ). length (trimmed bytes)) (fit.idle (idle_is v.phase is)) ∙ ap length (trimmed_nothing 3968);
   size = refl;
   trimmed = trimmed_ends v.content;
-  bytes = subst IsBytes (trimmed_front v.content) (IsBytes-take (length (trimmed v.content)) v.content fit.bytes);
+  bytes = subst IsBytes (trimmed_prefix v.content) (IsBytes-take (length (trimmed v.content)) v.content fit.bytes);
 }
 
--- The record of fit values is told as their fields.
-pub text_is_told : (v : DeviceValues) → AreFit v → Spells record_layout (wholly (fields_of v)) (record_text v)
-unfolding record_text
-text_is_told v fit = record_spelled (fields_of v) (trimmed v.content) (fields_are_whole v fit)
+-- The record of fit values is decoded as their fields.
+pub text_is_decoded : (v : DeviceValues) → AreValid v → Encodes record_layout (wholly (fields_of v)) (encode_record v)
+unfolding encode_record
+text_is_decoded v fit = record_encoded (fields_of v) (trimmed v.content) (fields_are_whole v fit)
 
-pub record_is_told : (bytes : List ℕ) (v : DeviceValues) → IsRecord bytes v → Spells record_layout (wholly (fields_of v)) bytes
-record_is_told bytes v is = subst (Spells record_layout (wholly (fields_of v))) (sym is.spelled) (text_is_told v is.fit)
+pub record_is_decoded : (bytes : List ℕ) (v : DeviceValues) → IsRecord bytes v → Encodes record_layout (wholly (fields_of v)) bytes
+record_is_decoded bytes v is = subst (Encodes record_layout (wholly (fields_of v))) (sym is.spelled) (text_is_decoded v is.fit)
 
 -- ---- from a record to values
 
@@ -57,7 +57,7 @@ IsBytes-zeros n i = let none = get_or-zeros n i in omega (arith, none)
 followed_idle : (content : List ℕ) → length content ≡ 0 → followed_by_zeros content ≡ zeros 3968
 followed_idle content none = ap followed_by_zeros (nil_from_length content none)
 
-values_are_fit : (f : Fields) (content : List ℕ) → AreWhole f content → AreFit (values_of f content)
+values_are_fit : (f : Fields) (content : List ℕ) → AreWhole f content → AreValid (values_of f content)
 values_are_fit f content is = record {
   working = is.working;
   idle = λ idle. followed_idle content (is.size ∙ is.idle (ap is_idle idle));
@@ -70,39 +70,39 @@ values_are_fit f content is = record {
 kept_again : (f : Fields) (content : List ℕ) → AreWhole f content → trimmed (followed_by_zeros content) ≡ content
 kept_again f content is = trimmed-followed content ∙ trimmed_whole content is.trimmed
 
-text_again : (f : Fields) (content : List ℕ) → AreWhole f content → record_text (values_of f content) ≡ header_text f ++ content
-unfolding record_text
+text_again : (f : Fields) (content : List ℕ) → AreWhole f content → encode_record (values_of f content) ≡ encode_header f ++ content
+unfolding encode_record
 text_again f content is =
     let kept = kept_again f content is in
-    ap (λ (list : List ℕ). header_text (record { regs = f.regs; cancelled = f.cancelled; number = f.number; count = length list }) ++ list) kept
-    ∙ ap (λ (n : ℕ). header_text (record { regs = f.regs; cancelled = f.cancelled; number = f.number; count = n }) ++ content) is.size
+    ap (λ (list : List ℕ). encode_header (record { regs = f.regs; cancelled = f.cancelled; number = f.number; count = length list }) ++ list) kept
+    ∙ ap (λ (n : ℕ). encode_header (record { regs = f.regs; cancelled = f.cancelled; number = f.number; count = n }) ++ content) is.size
 
-whole_is_record : (f : Fields) (bytes : List ℕ) (content : List ℕ) → bytes ≡ header_text f ++ content → AreWhole f content → IsRecord bytes (values_of f content)
+whole_is_record : (f : Fields) (bytes : List ℕ) (content : List ℕ) → bytes ≡ encode_header f ++ content → AreWhole f content → IsRecord bytes (values_of f content)
 whole_is_record f bytes content parts whole = record { fit = values_are_fit f content whole; spelled = parts ∙ sym (text_again f content whole) }
 
--- What is told as a record is that of the values that it tells.
-pub told_is_record : (f : Fields) (bytes : List ℕ) → IsBytes bytes → Spells record_layout (Ok f) bytes → IsRecord bytes (values_of f (drop 23 bytes)) × (length bytes ≡ 23 + f.count)
-told_is_record f bytes fits spelled =
-    let w = record_told f bytes fits spelled in
+-- What is decoded as a record is that of the values that it gives.
+pub decoded_is_record : (f : Fields) (bytes : List ℕ) → IsBytes bytes → Encodes record_layout (Ok f) bytes → IsRecord bytes (values_of f (drop 23 bytes)) × (length bytes ≡ 23 + f.count)
+decoded_is_record f bytes fits spelled =
+    let w = record_decoded f bytes fits spelled in
     let content : drop 23 bytes ≡ w.content = ap (drop 23) w.parts in
     (subst (λ (list : List ℕ). IsRecord bytes (values_of f list)) (sym content) (whole_is_record f bytes w.content w.parts w.whole), omega (arith, ap length w.parts, w.whole.size))
 
--- ---- each record tells its values once
+-- ---- the encoding of values as a record is injective
 
 same_fields : (f g : Fields) → wholly f ≡ wholly g → f ≡ g
 same_fields f g same = cc
 
-values_back : (v : DeviceValues) → AreFit v → values_of (fields_of v) (trimmed v.content) ≡ v
+values_back : (v : DeviceValues) → AreValid v → values_of (fields_of v) (trimmed v.content) ≡ v
 values_back v fit = ap (λ (list : List ℕ). record v { content = list }) (trimmed_back v.content fit.size)
 
-content_behind : (v : DeviceValues) → drop 23 (record_text v) ≡ trimmed v.content
-unfolding record_text
+content_behind : (v : DeviceValues) → drop 23 (encode_record v) ≡ trimmed v.content
+unfolding encode_record
 content_behind v = refl
 
-pub values_once : (v w : DeviceValues) → AreFit v → AreFit w → record_text v ≡ record_text w → v ≡ w
+pub values_once : (v w : DeviceValues) → AreValid v → AreValid w → encode_record v ≡ encode_record w → v ≡ w
 values_once v w fit fit_too same =
-    let texts : record_text v ++ [] ≡ record_text w ++ [] = ap (λ (text : List ℕ). text ++ []) same in
-    let one = one_spelling record_layout (wholly (fields_of v)) (wholly (fields_of w)) (record_text v) (record_text w) [] [] (text_is_told v fit) (text_is_told w fit_too) texts in
+    let texts : encode_record v ++ [] ≡ encode_record w ++ [] = ap (λ (text : List ℕ). text ++ []) same in
+    let one = one_encoding record_layout (wholly (fields_of v)) (wholly (fields_of w)) (encode_record v) (encode_record w) [] [] (text_is_decoded v fit) (text_is_decoded w fit_too) texts in
     let content : trimmed v.content ≡ trimmed w.content = sym (content_behind v) ∙ ap (drop 23) same ∙ content_behind w in
     sym (values_back v fit)
     ∙ ap (λ (f : Fields). values_of f (trimmed v.content)) (same_fields (fields_of v) (fields_of w) one.0)
@@ -119,22 +119,22 @@ lost_not Reception works is = absurd cc
 lost_not Execution works is = absurd cc
 lost_not Completion works is = absurd cc
 
-pub whole_told : (f : Fields) (bytes : List ℕ) → IsBytes bytes → Spells record_layout (Ok f) bytes → Restores f bytes
-whole_told f bytes fits spelled =
-    let w = record_told f bytes fits spelled in
+pub whole_decoded : (f : Fields) (bytes : List ℕ) → IsBytes bytes → Encodes record_layout (Ok f) bytes → Restores f bytes
+whole_decoded f bytes fits spelled =
+    let w = record_decoded f bytes fits spelled in
     let content : drop 23 bytes ≡ w.content = ap (drop 23) w.parts in
-    let t = told_is_record f bytes fits spelled in
+    let t = decoded_is_record f bytes fits spelled in
     record {
       is_record = t.0;
       size = t.1;
-      few = w.whole.count;
+      within_limit = w.whole.count;
       working = lost_not f.regs.phase w.whole.working;
       idle = λ is. content ∙ nil_from_length w.content (w.whole.size ∙ w.whole.idle (ap is_idle is));
       waits = λ on. executing_is f.regs.phase (w.whole.waits on);
     }
 
-pub told_is_of_values : (f : Fields) (bytes : List ℕ) → IsBytes bytes → Spells record_layout (Ok f) bytes → IsRecord bytes (values_of f (drop 23 bytes))
-told_is_of_values f bytes fits spelled = (told_is_record f bytes fits spelled).0
+pub decoded_is_of_values : (f : Fields) (bytes : List ℕ) → IsBytes bytes → Encodes record_layout (Ok f) bytes → IsRecord bytes (values_of f (drop 23 bytes))
+decoded_is_of_values f bytes fits spelled = (decoded_is_record f bytes fits spelled).0
 
 -- ---- what is written of a device
 
@@ -143,8 +143,8 @@ fields_with granted cancel phase cancelled number count = record { regs = record
 
 pub text_written : (v : DeviceValues) (granted cancel : Bool) (phase : Phase) (cancelled : Bool) (number count : ℕ) (content new : List ℕ) → granted ≡ v.granted → cancel ≡ v.cancel → phase ≡ v.phase
     → cancelled ≡ v.cancelled → number ≡ v.number → content ≡ v.content → take count content ≡ trimmed content → count ≤ length content
-    → take (23 + length (take count content)) new ≡ header_text (fields_with granted cancel phase cancelled number count) ++ take count content → take (23 + count) new ≡ record_text v
-unfolding record_text
+    → take (23 + length (take count content)) new ≡ encode_header (fields_with granted cancel phase cancelled number count) ++ take count content → take (23 + count) new ≡ encode_record v
+unfolding encode_record
 text_written v granted cancel phase cancelled number count content new a b c d e same kept le written =
     let size : length (take count content) ≡ count = omega (arith, length-take count content) in
     let kept_too : take count content ≡ trimmed v.content = kept ∙ ap trimmed same in
@@ -154,7 +154,7 @@ text_written v granted cancel phase cancelled number count content new a b c d e
     ∙ ap (λ (x : Bool). fields_with v.granted v.cancel v.phase x number count) d ∙ ap (λ (x : ℕ). fields_with v.granted v.cancel v.phase v.cancelled x count) e
     ∙ ap (λ (x : ℕ). fields_with v.granted v.cancel v.phase v.cancelled v.number x) count_too in
     ap (λ (n : ℕ). take (23 + n) new) (sym size) ∙ written
-    ∙ ap (λ (f : Fields). header_text f ++ take count content) fields ∙ ap (λ (list : List ℕ). header_text (fields_of v) ++ list) kept_too
+    ∙ ap (λ (f : Fields). encode_header f ++ take count content) fields ∙ ap (λ (list : List ℕ). encode_header (fields_of v) ++ list) kept_too
 
 -- ---- and what a device gets
 
@@ -172,9 +172,9 @@ restored_as f bytes v d e restores is_record is =
     is ∙ ap (λ (w : DeviceValues). with_values w d) (values_once made v one.fit is_record.fit (sym one.spelled ∙ is_record.spelled))
 
 -- the length of the record, as many bytes of content as are left without the zeros at the end
-pub length-record_text : (v : DeviceValues) (count : ℕ) (content : List ℕ) → content ≡ v.content → take count content ≡ trimmed content → count ≤ length content → length (record_text v) ≡ 23 + count
-unfolding record_text
-length-record_text v count content same kept within =
+pub length-encode_record : (v : DeviceValues) (count : ℕ) (content : List ℕ) → content ≡ v.content → take count content ≡ trimmed content → count ≤ length content → length (encode_record v) ≡ 23 + count
+unfolding encode_record
+length-encode_record v count content same kept within =
     let size : length (take count content) ≡ count = omega (arith, length-take count content) in
     let count_too : count ≡ length (trimmed v.content) = sym size ∙ ap length kept ∙ ap (λ (list : List ℕ). length (trimmed list)) same in
     omega (arith, count_too)

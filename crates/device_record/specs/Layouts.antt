@@ -1,10 +1,10 @@
--- Records told from the left, field by field: the places and the order of what is refused. (Own definitions.)
+-- Records parsed from left to right, field by field: the places and the order of what is refused. (Own definitions.)
 use Rattle.std.specs.Prelude.{◌≡◌, ℕ, ◌+◌, ◌-◌, ◌<◌, ◌==◌, ◌&&◌, ◌||◌, not, nat_lt, if◌then◌else◌, Bool, List, length, take, slice_index, ◌⊎◌, Option, Some, None, Result, Ok, Err}
-use Rattle.vt_base.specs.Layout.{Layout, Ends, Field, Spells, IsOpen, byte_then, short_then, number_then, long_then}
-use Rattle.vt_base.specs.Marks.{marks_then}
-use Rattle.vt_base.specs.Refusing.{malformed, refuse, mark_then}
-use Rattle.vt_base.specs.declared.words.Why.TheVariants.{Version, Length, Value, Cut, Extra}
-use Rattle.vt_base.specs.declared.words.Malformed.{Malformed}
+use Rattle.vt_base.specs.Layout.{Layout, Ends, Field, Encodes, IsOpen, byte_then, short_then, number_then, long_then}
+use Rattle.vt_base.specs.Magics.{magic_then}
+use Rattle.vt_base.specs.Refusing.{malformed, refuse, magic_byte_then}
+use Rattle.vt_base.specs.declared.types.Why.TheVariants.{Version, Length, Value, Cut, Extra}
+use Rattle.vt_base.specs.declared.types.Malformed.{Malformed}
 use Rattle.crb_regs.specs.Registers.{is_idle, is_executing}
 use Rattle.crb_regs.specs.declared.registers.Regs.{Regs}
 use Rattle.crb_machine.specs.Values.{DeviceValues}
@@ -32,7 +32,7 @@ ends_in_zero bytes = nat_lt 0 (length bytes) && slice_index bytes (length bytes 
 abbrev pub content_then : Fields → Layout Ending
 content_then f = Field f.count (λ content. if ends_in_zero content then refuse Value (22 + f.count) else Ends (Ok f))
 
--- the number of content bytes, which the length of the record told before, and which is 0 in Idle
+-- the number of content bytes, which the length of the record gave before, and which is 0 in Idle
 abbrev pub count_then : ℕ → Regs → Bool → ℕ → Layout Ending
 count_then size regs cancelled number = short_then (λ count.
     if not (14 + count == size) then refuse Length 21 else
@@ -57,15 +57,15 @@ length_then = number_then (λ size. if nat_lt size 14 || nat_lt 3982 size then r
 
 -- the version
 abbrev pub version_then : Layout Ending
-version_then = mark_then 1 Version 4 length_then
+version_then = magic_byte_then 1 Version 4 length_then
 
 -- a record
 unfoldable pub record_layout : Layout Ending
-record_layout = marks_then magic 0 version_then
+record_layout = magic_then magic 0 version_then
 
 -- A field of the bytes is refused, whatever stands behind it.
 abbrev pub HasRefusedField : Malformed → List ℕ → Type 0
-HasRefusedField fault bytes = (n : ℕ) × Spells record_layout (Err fault) (take n bytes)
+HasRefusedField fault bytes = (n : ℕ) × Encodes record_layout (Err fault) (take n bytes)
 
 -- The bytes end before a record does, and no field of them is refused.
 pub record AreCut (fault : Malformed) (bytes : List ℕ) : Type 0 where

@@ -1,10 +1,10 @@
--- How the values of a device are spelled as a record. (Own definitions. Numbers are big-endian.)
+-- How the values of a device are encoded as a record. (Own definitions. Numbers are big-endian.)
 use Rattle.std.specs.Prelude.{◌≡◌, ℕ, ◌+◌, List, [], ◌∷◌, ◌++◌, length, find, Option, Bool, true, false, ◌==◌, if◌then◌else◌}
 use Rattle.vt_base.specs.Buffer.{followed_by_zeros}
 use Rattle.vt_base.specs.Numbers.{short, number, long}
 use Rattle.crb_regs.specs.declared.phase.Phase.{Phase}
 use Rattle.crb_regs.specs.declared.phase.Phase.TheVariants.{Idle, Ready, Reception, Execution, Completion, Lost}
-use Rattle.crb_machine.specs.Values.{DeviceValues, AreFit}
+use Rattle.crb_machine.specs.Values.{DeviceValues, AreValid}
 use Rattle.device_record.specs.declared.fields.Fields.{Fields}
 
 -- C, R, B, D
@@ -67,17 +67,17 @@ values_of f content = record {
 }
 
 -- the magic, the version, how many bytes follow, and then the fields, up to the number of content bytes
-abbrev pub header_text : Fields → List ℕ
-header_text f =
+abbrev pub encode_header : Fields → List ℕ
+encode_header f =
     magic ++ 1 ∷ [] ++ number (14 + f.count)
     ++ flag_byte f.regs.granted ∷ flag_byte f.regs.cancel ∷ phase_code f.regs.phase ∷ flag_byte f.cancelled ∷ []
     ++ long f.number ++ short f.count
 
 -- the record of these values: its header, and the buffer without the zeros at its end
-unfoldable pub record_text : DeviceValues → List ℕ
-record_text v = header_text (fields_of v) ++ trimmed v.content
+unfoldable pub encode_record : DeviceValues → List ℕ
+encode_record v = encode_header (fields_of v) ++ trimmed v.content
 
 -- The bytes are the record of these values, which a device can have.
 pub record IsRecord (bytes : List ℕ) (v : DeviceValues) : Type 0 where
-  pub fit : AreFit v
-  pub spelled : bytes ≡ record_text v
+  pub fit : AreValid v
+  pub spelled : bytes ≡ encode_record v

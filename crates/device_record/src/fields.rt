@@ -6,7 +6,7 @@ ghost use Rattle.device_record.specs.Records.{flag_byte, flag_at, phase_code, ph
 use crate::format::{CLEAR, COMPLETION, EXECUTION, IDLE, LOST, READY, RECEPTION, SET};
 use crb_regs::{Phase, Regs};
 
-/// What a record tells before its content.
+/// What a record gives before its content.
 #[derive(Clone, Copy, Debug, PartialEq, Eq)]
 pub struct Fields {
     /// The registers.

@@ -12,17 +12,17 @@ pub const VERSION_PLACE: u32 = 4;
 /// Where the length stands, in four bytes: the number of bytes that follow it.
 pub const LENGTH_PLACE: u32 = 5;
 
-/// Where the flag stands that tells whether access is granted.
+/// Where the flag stands that says whether access is granted.
 pub const GRANTED_PLACE: u32 = 9;
 
-/// Where the flag stands that tells whether CANCEL is set.
+/// Where the flag stands that says whether CANCEL is set.
 pub const CANCEL_PLACE: u32 = 10;
 
 /// Where the code of the phase stands.
 pub const PHASE_PLACE: u32 = 11;
 
-/// Where the flag stands that tells whether the job that waits is cancelled; behind it stands the number of the last job,
-/// in eight bytes.
+/// Where the flag stands that says whether the job that waits is cancelled; behind it stands the number of the last
+/// job, in eight bytes.
 pub const CANCELLED_PLACE: u32 = 12;
 
 /// Where the number of content bytes stands, in two bytes.

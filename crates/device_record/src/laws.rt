@@ -2,24 +2,24 @@
 
 ghost use Rattle.std.specs.Prelude.{◌≡◌, ◌≢◌, ℕ, ◌<◌, ◌≤◌, ◌⊎◌, List, ◌++◌, length, take, drop, Some, Ok};
 ghost use Rattle.vt_base.specs.Numbers.{IsBytes};
-ghost use Rattle.vt_base.specs.Layout.{Spells};
+ghost use Rattle.vt_base.specs.Layout.{Encodes};
 ghost use Rattle.vt_base.specs.Refusing.{malformed};
-ghost use Rattle.vt_base.specs.declared.words.Why.TheVariants.{Cut, Extra};
-ghost use Rattle.vt_base.specs.declared.words.Malformed.{Malformed};
-ghost use Rattle.crb_machine.specs.Values.{DeviceValues, AreFit};
+ghost use Rattle.vt_base.specs.declared.types.Why.TheVariants.{Cut, Extra};
+ghost use Rattle.vt_base.specs.declared.types.Malformed.{Malformed};
+ghost use Rattle.crb_machine.specs.Values.{DeviceValues, AreValid};
 ghost use Rattle.device_record.specs.declared.fields.Fields.{Fields};
-ghost use Rattle.device_record.specs.Records.{fields_of, values_of, record_text, IsRecord};
+ghost use Rattle.device_record.specs.Records.{fields_of, values_of, encode_record, IsRecord};
 ghost use Rattle.device_record.specs.Layouts.{record_layout, HasRefusedField, AreCut, GoOn, IsRefused};
 ghost use Rattle.device_record.specs.Rows.{first_refused};
 
 /// Bytes are the record of some values, or refused for one reason at one place.
-#[tactic(auto, using(crate::proofs::Apart::text_is_record, crate::proofs::Apart::text_not_refused, crate::proofs::Apart::text_front_is_cut, crate::proofs::Apart::refused_once, crate::proofs::Apart::refused_stays, crate::proofs::Decided::decided, crate::proofs::Reasons::cut_is_cut, crate::proofs::Reasons::extra_goes_on, crate::proofs::Values::text_is_told, crate::proofs::Values::told_is_of_values))]
-pub fn records_are_told_apart()
-    // The record of values that a held device can have is accepted, and each front of it is cut and nothing else.
-    ensures accepted { (v : DeviceValues) → AreFit v → IsRecord (record_text v) v }
-    ensures not_refused { (v : DeviceValues) (fault : Malformed) → AreFit v → IsRefused fault (record_text v) → ⊥ }
-    ensures fronts { (v : DeviceValues) (n : ℕ) → AreFit v → n < length (record_text v) →
-        IsRefused (malformed Cut n) (take n (record_text v)) }
+#[tactic(auto, using(crate::proofs::Apart::text_is_record, crate::proofs::Apart::text_not_refused, crate::proofs::Apart::text_prefix_is_cut, crate::proofs::Apart::refused_once, crate::proofs::Apart::refused_stays, crate::proofs::Decided::decided, crate::proofs::Reasons::cut_is_cut, crate::proofs::Reasons::extra_goes_on, crate::proofs::Values::text_is_decoded, crate::proofs::Values::decoded_is_of_values))]
+pub fn records_are_prefix_free()
+    // The record of values that a held device can have is accepted, and each prefix of it is cut and nothing else.
+    ensures accepted { (v : DeviceValues) → AreValid v → IsRecord (encode_record v) v }
+    ensures not_refused { (v : DeviceValues) (fault : Malformed) → AreValid v → IsRefused fault (encode_record v) → ⊥ }
+    ensures fronts { (v : DeviceValues) (n : ℕ) → AreValid v → n < length (encode_record v) →
+        IsRefused (malformed Cut n) (take n (encode_record v)) }
 
     ensures decided { (bytes : List ℕ) → IsBytes bytes →
         ((v : DeviceValues) × IsRecord bytes v) ⊎ ((fault : Malformed) × IsRefused fault bytes) }
@@ -34,15 +34,15 @@ pub fn records_are_told_apart()
         IsRefused fault (bytes ++ more) }
 
     // The layout against the definition of a record.
-    ensures told { (v : DeviceValues) → AreFit v → Spells record_layout (Ok (fields_of v)) (record_text v) }
-    ensures spelled { (f : Fields) (bytes : List ℕ) → IsBytes bytes → Spells record_layout (Ok f) bytes →
+    ensures exact { (v : DeviceValues) → AreValid v → Encodes record_layout (Ok (fields_of v)) (encode_record v) }
+    ensures spelled { (f : Fields) (bytes : List ℕ) → IsBytes bytes → Encodes record_layout (Ok f) bytes →
         IsRecord bytes (values_of f (drop 23 bytes)) }
 {}
 
-/// Each record tells its values once.
+/// The encoding of values as a record is injective.
 #[tactic(auto, using(crate::proofs::Values::values_once))]
-pub fn records_are_told_once()
-    ensures once { (v w : DeviceValues) → AreFit v → AreFit w → record_text v ≡ record_text w → v ≡ w }
+pub fn record_encoding_is_injective()
+    ensures once { (v w : DeviceValues) → AreValid v → AreValid w → encode_record v ≡ encode_record w → v ≡ w }
 {}
 
 /// A field of bytes is refused exactly where a row holds, and the first that does says why and where.
@@ -55,6 +55,6 @@ pub fn records_are_refused_by_rows()
 /// A record has 23 to 3991 bytes.
 #[tactic(auto, using(crate::proofs::Lengths::record_least, crate::proofs::Lengths::record_most))]
 pub fn records_have_a_length()
-    ensures least { (v : DeviceValues) → 23 ≤ length (record_text v) }
-    ensures most { (v : DeviceValues) → AreFit v → length (record_text v) ≤ 3991 }
+    ensures least { (v : DeviceValues) → 23 ≤ length (encode_record v) }
+    ensures most { (v : DeviceValues) → AreValid v → length (encode_record v) ≤ 3991 }
 {}

@@ -12,16 +12,16 @@
 //! device.go_on();
 //! ```
 //!
-//! The format is our own, and each value has one spelling: the magic `CRBD`, a version, the number of bytes that follow,
-//! the registers, the job that waits, and the buffer without the zeros at its end. Bytes that are no record are refused
-//! from the left, each field when all its bytes are there, and the device is left as it was. Neither call takes memory.
-//! Where the bytes are kept, and when a device may be taken apart, is left to others.
+//! The format is our own, and each value has one encoding: the magic `CRBD`, a version, the number of bytes that
+//! follow, the registers, the job that waits, and the buffer without the zeros at its end. Bytes that are no record are
+//! refused from the left, each field when all its bytes are there, and the device is left as it was. Neither call takes
+//! memory. Where the bytes are kept, and when a device may be taken apart, is left to others.
 #![tactic(auto)]
 
 mod fields;
 mod format;
-mod judge;
 pub mod laws;
+mod parse;
 mod reading;
 mod record;
 mod writing;

@@ -6,7 +6,7 @@ ghost use Rattle.device_record.specs.Restoring.{Restores};
 
 use crate::fields::Fields;
 use crate::format::HEADER_SIZE;
-use crate::judge::judge;
+use crate::parse::parse;
 use vt_base::{Malformed, Why};
 
 /// The fields of the record that these bytes are, or why they are none. The content is what stands behind the header.
@@ -14,7 +14,7 @@ pub fn fields_in(bytes: &[u8]) -> Result<Fields, Malformed>
     ensures ok { IfOk result (λ f. Restores f bytes.now) }
     ensures refused { IfErr result (λ fault. IsRefused fault bytes.now) }
 {
-    let Ok(end) = judge(bytes) else {
+    let Ok(end) = parse(bytes) else {
         return Err(Malformed {
             why: Why::Cut,
             place: bytes.len() as u32,

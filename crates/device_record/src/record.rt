@@ -1,9 +1,9 @@
 //! The record of a device.
 
 ghost use Rattle.std.specs.Prelude.{◌≡◌, ◌≢◌, ◌≤◌, true, length, take, drop, OnOk, OnErr, IfErr};
-ghost use Rattle.crb_machine.specs.Values.{DeviceValues, AreFit, held_values, with_values};
-ghost use Rattle.crb_machine.specs.Over.{IsSound, HasInHand};
-ghost use Rattle.device_record.specs.Records.{record_text, IsRecord};
+ghost use Rattle.crb_machine.specs.Values.{DeviceValues, AreValid, held_values, with_values};
+ghost use Rattle.crb_machine.specs.Over.{IsConsistentDevice, HasClaimedNumber};
+ghost use Rattle.device_record.specs.Records.{encode_record, IsRecord};
 ghost use Rattle.device_record.specs.Layouts.{IsRefused};
 
 use crate::fields::Fields;
@@ -15,16 +15,16 @@ use crb_port::Port;
 use crb_regs::{Phase, Regs};
 use vt_base::Malformed;
 
-/// Writes the record of a held device at the front of the bytes, and gives its length. A lost device has none.
+/// Writes the record of a held device at the start of the bytes, and gives its length. A lost device has none.
 pub fn write_record<P: Port>(device: &Device<P>, into: &mut [u8; RECORD_ROOM]) -> usize
     requires held { device.now.held ≡ true }
     requires working { device.now.regs.phase ≢ Phase.Lost }
 
-    ensures text { take result into.new ≡ record_text (held_values device.now) }
-    ensures rest { drop result into.new ≡ drop result into.old }
-    ensures fit { AreFit (held_values device.now) }
+    ensures text { take result into.new ≡ encode_record (held_values device.now) }
+    ensures rest_unchanged { drop result into.new ≡ drop result into.old }
+    ensures fit { AreValid (held_values device.now) }
     ensures within { result ≤ 3991 }
-    ensures size { length (record_text (held_values device.now)) ≡ result }
+    ensures size { length (encode_record (held_values device.now)) ≡ result }
 {
     let content = device.content();
     let count = trimmed_length(content);
@@ -53,9 +53,9 @@ pub fn load_record<P: Port>(device: &mut Device<P>, bytes: &[u8]) -> Result<(), 
     ensures unchanged { OnErr result (device.new ≡ device.old) }
     ensures held { device.new.held ≡ true }
     ensures port { device.new.port ≡ device.old.port }
-    ensures sound { OnOk result (IsSound P.known device.new) }
-    ensures hand { OnOk result (HasInHand P.known device.new) }
-    ensures rest { P.rest device.new.port ≡ P.rest device.old.port }
+    ensures consistent { OnOk result (IsConsistentDevice P.port_view device.new) }
+    ensures claimed_number { OnOk result (HasClaimedNumber P.port_view device.new) }
+    ensures rest_unchanged { P.rest device.new.port ≡ P.rest device.old.port }
 {
     let fields = fields_in(bytes)?;
     let regs = fields.regs;

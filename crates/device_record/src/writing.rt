@@ -1,7 +1,7 @@
 //! Records written.
 
 ghost use Rattle.std.specs.Prelude.{◌≡◌, ◌+◌, ◌≤◌, ◌++◌, length, take, drop};
-ghost use Rattle.device_record.specs.Records.{trimmed, header_text};
+ghost use Rattle.device_record.specs.Records.{trimmed, encode_header};
 
 use crate::fields::{Fields, flag_byte, phase_code};
 use crate::format::{FIXED_LENGTH, HEADER_SIZE, MAGIC, VERSION};
@@ -20,7 +20,7 @@ pub fn trimmed_length(bytes: &[u8]) -> usize
 }
 
 fn header(fields: &Fields) -> [u8; HEADER_SIZE]
-    ensures { result ≡ header_text fields.now }
+    ensures { result ≡ encode_header fields.now }
 {
     let [m0, m1, m2, m3] = MAGIC;
     let [s0, s1, s2, s3] = (FIXED_LENGTH + u32::from(fields.count)).to_be_bytes();
@@ -39,16 +39,16 @@ fn header(fields: &Fields) -> [u8; HEADER_SIZE]
 // Writes bytes behind the first `at` ones.
 fn put_at(into: &mut [u8], at: usize, bytes: &[u8])
     requires room { at + length bytes.now ≤ length into.old }
-    ensures front { take (at + length bytes.now) into.new ≡ take at into.old ++ bytes.now }
+    ensures prefix { take (at + length bytes.now) into.new ≡ take at into.old ++ bytes.now }
     ensures behind { drop (at + length bytes.now) into.new ≡ drop (at + length bytes.now) into.old }
 {
     into[at..at + bytes.len()].copy_from_slice(bytes);
 }
 
-/// Writes a header and the content at the front.
+/// Writes a header and the content at the start.
 pub fn put_record(fields: &Fields, content: &[u8], into: &mut [u8])
     requires room { 23 + length content.now ≤ length into.old }
-    ensures text { take (23 + length content.now) into.new ≡ header_text fields.now ++ content.now }
+    ensures text { take (23 + length content.now) into.new ≡ encode_header fields.now ++ content.now }
     ensures behind { drop (23 + length content.now) into.new ≡ drop (23 + length content.now) into.old }
 {
     put_at(into, 0, &header(fields));

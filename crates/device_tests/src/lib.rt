@@ -4,14 +4,14 @@
 #![tactic(auto)]
 
 #[cfg(test)]
-mod driver;
+mod crb_driver_tests;
 #[cfg(test)]
-mod ground;
+mod crb_machine_tests;
 #[cfg(test)]
-mod machine;
+mod crb_port_tests;
 #[cfg(test)]
-mod port;
+mod crb_regs_tests;
 #[cfg(test)]
-mod record;
+mod device_record_tests;
 #[cfg(test)]
-mod registers;
+mod vt_base_tests;

@@ -4,10 +4,10 @@
 #![tactic(auto)]
 
 #[cfg(test)]
-mod client;
+mod crb_worker_tests;
 #[cfg(test)]
-mod emulator;
+mod ctrl_client_tests;
 #[cfg(test)]
-mod wires;
+mod fixtures;
 #[cfg(test)]
-mod worker;
+mod vt_emulator_tests;

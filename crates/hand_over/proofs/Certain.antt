@@ -1,9 +1,9 @@
 -- A delivery that has nothing to refuse is the model's without a refusal.
 use Rattle.std.proofs.Common.{◌≡◌, ℕ, ◌⊎◌, inl, inr, Bool, true, false, List, length, Option, Some, None, refl, ap, subst, ◌∙◌}
 use Rattle.std.specs.Prelude.{nat_lt, ◌==◌, ◌&&◌, if◌then◌else◌}
-use Rattle.crb_port.specs.Known.{Known}
-use Rattle.ctrl_client.specs.Link.{Link}
-use Rattle.move_codec.specs.declared.names.HostName.{HostName}
+use Rattle.crb_port.specs.Views.{PortView}
+use Rattle.ctrl_model.specs.Link.{Link}
+use Rattle.vt_base.specs.declared.types.HostName.{HostName}
 use Rattle.move_codec.specs.declared.names.Part.{Part}
 use Rattle.move_codec.specs.declared.message.Message.{Message}
 use Rattle.move_codec.specs.declared.message.Body.{Body}
@@ -71,21 +71,21 @@ shows : (me : HostName) (size : PieceSizes) (g : HostState) (m : Message) (r : R
 shows me size g m r = by_test (model.is_same me m.to) _ _ (model.ignores g) (message_shows me size g m.epoch m.body r)
 
 -- without a refusal
-sure_of : {P Plan : Type 0} (size : PieceSizes) (row : Option Refusal → After) (v : WiresView Plan) (answer : Delivered) (new : HostModel P) → ((r : Refusal) → Shows (row (Some r)) (row None)) → IsNotRefused answer → IsStep size row v answer new → IsSureStep size (row None) v answer new
+sure_of : {P Schedule : Type 0} (size : PieceSizes) (row : Option Refusal → After) (v : WiresView Schedule) (answer : Delivered) (new : HostModel P) → ((r : Refusal) → Shows (row (Some r)) (row None)) → IsNotRefused answer → IsStep size row v answer new → IsSureStep size (row None) v answer new
 sure_of {P} size row v answer new shows fine step = by step.refusal step.stands step.answer_is
   where
     by : (refusal : Option Refusal) → StandsFor size new step.link (row refusal).host → answer ≡ (row refusal).answer → IsSureStep size (row None) v answer new
     by None stands said = record { link = step.link; is_link = step.is_link; stands = stands; answer_is = said }
-    by (Some r) stands said = told (shows r)
+    by (Some r) stands said = exact (shows r)
       where
-        told : Shows (row (Some r)) (row None) → IsSureStep size (row None) v answer new
-        told (inl same) = record { link = step.link; is_link = step.is_link; stands = subst (λ (a : After). StandsFor size new step.link a.host) same stands; answer_is = said ∙ ap (λ (a : After). a.answer) same }
-        told (inr refuses) = absurd (refuses (subst IsNotRefused said fine))
+        exact : Shows (row (Some r)) (row None) → IsSureStep size (row None) v answer new
+        exact (inl same) = record { link = step.link; is_link = step.is_link; stands = subst (λ (a : After). StandsFor size new step.link a.host) same stands; answer_is = said ∙ ap (λ (a : After). a.answer) same }
+        exact (inr refuses) = absurd (refuses (subst IsNotRefused said fine))
 
-pub certain : {P Plan : Type 0} (known : P → Known) (laws : PieceLaws) (size : PieceSizes) (h : HostModel P) (m : Message) (w v : WiresView Plan) (l : Link) (g : HostState) (answer : Delivered) (new : HostModel P)
-    → w.link ≡ Some l → IsUndisturbed w → StandsFor size h l g → MatchesSide h → HasBytes m.body → IsFineFor m.body h.stage h l.desk → Follows known (table.delivered h m) w v answer new
+pub certain : {P Schedule : Type 0} (port_view : P → PortView) (laws : PieceLaws) (size : PieceSizes) (h : HostModel P) (m : Message) (w v : WiresView Schedule) (l : Link) (g : HostState) (answer : Delivered) (new : HostModel P)
+    → w.link ≡ Some l → IsUndisturbed w → StandsFor size h l g → MatchesSide h → HasBytes m.body → IsFineFor m.body h.stage h l.emulator → Follows port_view (table.delivered h m) w v answer new
     → IsSureStep size (model.delivered h.name size g m None) v answer new
-certain known laws size h m w v l g answer new is fine stands placed some fine_for f =
+certain port_view laws size h m w v l g answer new is fine stands placed some fine_for f =
     sure_of size (λ r. model.delivered h.name size g m r) v answer new (shows h.name size g m)
-    (not_refused known laws h m w v l answer new is stands.quiet fine stands.ready some fine_for f)
-    (delivery known size h m w v l g answer new is stands placed some f)
+    (not_refused port_view laws h m w v l answer new is stands.quiet fine stands.ready some fine_for f)
+    (delivery port_view size h m w v l g answer new is stands placed some f)

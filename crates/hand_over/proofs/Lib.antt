@@ -11,7 +11,7 @@ pub mod Undisturbed
 pub mod Commanding
 pub mod Turns
 pub mod Hands
-pub mod Held
+pub mod PreparedHosts
 pub mod Starts
 pub mod Losses
 pub mod Carrying

@@ -3,8 +3,8 @@ use Rattle.std.proofs.Common.{◌≡◌, ℕ, suc, ◌+◌, ◌-◌, ◌*◌, �
 use Rattle.std.specs.Prelude.{nat_lt, ◌==◌, ◌&&◌}
 use Rattle.std.proofs.lemmas.Bool.{cond-true, cond-false, eq-eqb, ltb-true, lt-ltb, le-ltb, le-leb, and_from, cases_lt}
 use Rattle.std.proofs.lemmas.List.{length-take, length-drop}
-use Rattle.move_codec.specs.declared.names.HostName.{HostName}
-use Rattle.move_codec.specs.declared.names.HostName.TheVariants.{A, B}
+use Rattle.vt_base.specs.declared.types.HostName.{HostName}
+use Rattle.vt_base.specs.declared.types.HostName.TheVariants.{A, B}
 use Rattle.move_codec.specs.declared.names.Part.{Part}
 use Rattle.move_codec.specs.declared.message.Message.{Message}
 use Rattle.move_codec.specs.declared.message.Body.TheVariants as body

@@ -2,10 +2,10 @@
 use Rattle.std.specs.Prelude.{◌-◌, ◌+◌, ◌*◌, ℕ, length, suc, Option, Some, None}
 use Rattle.std.specs.Int.{div_ceil}
 use Rattle.crb_machine.specs.Values.{held_values}
-use Rattle.device_record.specs.Records.{record_text}
+use Rattle.device_record.specs.Records.{encode_record}
 use Rattle.tpm_core.specs.declared.parts.TpmParts.{TpmParts}
-use Rattle.ctrl_client.specs.Desk.{Held}
-use Rattle.ctrl_client.specs.Link.{Link, Lane}
+use Rattle.ctrl_model.specs.Emulator.{PendingCommand}
+use Rattle.ctrl_model.specs.Link.{Link, ChannelState}
 use Rattle.move_codec.specs.declared.names.Part.{Part}
 use Rattle.move_codec.specs.declared.names.Part.TheVariants.{Record, Permanent, Volatile, Saved}
 use Rattle.move_codec.specs.declared.message.Message.{Message}
@@ -13,7 +13,7 @@ use Rattle.move_codec.specs.declared.message.Body.{Body}
 use Rattle.move_codec.specs.declared.message.Body.TheVariants as body
 use Rattle.move_core.specs.Model.{HostModel}
 use Rattle.hand_over.specs.Parts.{Parts, PieceSizes}
-use Rattle.hand_over.specs.Bridge.{standing}
+use Rattle.hand_over.specs.Bridge.{port_state}
 
 -- The pieces of a whole move: each part goes in pieces of its size, of which the last may be shorter.
 abbrev pub pieces_of : PieceSizes → Parts → ℕ
@@ -43,20 +43,20 @@ messages_after size parts _ = 0
 
 -- how many bytes a piece of a blob has at most
 abbrev pub blob_piece : Option Link → ℕ
-blob_piece (Some l) = l.desk.piece
+blob_piece (Some l) = l.emulator.piece
 blob_piece None = 0
 
 abbrev pub tpm_behind : Option Link → Option TpmParts
-tpm_behind (Some l) = l.desk.tpm
+tpm_behind (Some l) = l.emulator.tpm
 tpm_behind None = None
 
 -- the command that an emulator holds, and the bytes of the channel of commands
 pub record CommandState : Type 0 where
-  pub held : Option Held
-  pub lane : Lane
+  pub held : Option PendingCommand
+  pub channel : ChannelState
 
 abbrev pub commands_at : Option Link → Option CommandState
-commands_at (Some l) = Some (record { held = l.desk.held; lane = l.commands })
+commands_at (Some l) = Some (record { held = l.emulator.held; channel = l.commands })
 commands_at None = None
 
 abbrev pub sizes_at : {P : Type 0} → HostModel P → Option Link → PieceSizes
@@ -64,7 +64,7 @@ sizes_at h link = record { of_record = h.piece; of_blob = blob_piece link }
 
 -- the record of the held device, and the blobs of the TPM
 abbrev pub parts_at : {P : Type 0} → HostModel P → Option Link → Parts
-parts_at h link = standing (record_text (held_values h.device)) (tpm_behind link)
+parts_at h link = port_state (encode_record (held_values h.device)) (tpm_behind link)
 
 -- the pieces of a move from this host, whose device is held
 abbrev pub pieces_from : {P : Type 0} → HostModel P → Option Link → ℕ

@@ -2,7 +2,7 @@
 use Rattle.std.specs.Prelude.{ℕ, ◌+◌, ◌==◌, ◌&&◌, Bool, true, false, nat_lt, nat_le, if◌then◌else◌, List, length, Option, Some, None}
 use Rattle.hand_over.specs.Parts.{Parts, PieceSizes, size_for, part_of, part_after, part_number, nothing, lengths, total_of, slice, put, first_bad}
 use Rattle.move_core.specs.Sides as sides
-use Rattle.move_codec.specs.declared.names.HostName.{HostName}
+use Rattle.vt_base.specs.declared.types.HostName.{HostName}
 use Rattle.move_codec.specs.declared.names.Part.{Part}
 use Rattle.move_codec.specs.declared.names.Part.TheVariants.{Record}
 use Rattle.move_codec.specs.declared.names.Reason.{Reason}

@@ -1,8 +1,8 @@
 -- How a move from hand to hand begins. (Own definitions.)
 use Rattle.std.specs.Prelude.{◌≡◌, ◌≢◌, ◌≤◌, ◌<◌, ◌-◌, ◌^◌, ℕ, true, false, [], Some, None, IfSome}
 use Rattle.tpm_core.specs.declared.parts.TpmParts.{TpmParts}
-use Rattle.tpm_core.specs.Steps.{IsFit}
-use Rattle.move_codec.specs.declared.names.HostName.{HostName}
+use Rattle.tpm_core.specs.Steps.{IsValid}
+use Rattle.vt_base.specs.declared.types.HostName.{HostName}
 use Rattle.move_codec.specs.declared.message.Message.{Message}
 use Rattle.move_codec.specs.declared.message.Body.TheVariants as body
 use Rattle.move_core.specs.Model.{HostModel}
@@ -20,7 +20,7 @@ use Rattle.crb_machine.specs.State.Slot.{Claimed}
 use Rattle.crb_machine.specs.Steps.{collected}
 use Rattle.crb_machine.specs.Over.{state_of}
 use Rattle.crb_machine.specs.Model.{DeviceModel}
-use Rattle.crb_port.specs.Known.{Known}
+use Rattle.crb_port.specs.Views.{PortView}
 
 -- the first message to the target: an offer that is new to it
 pub record OfferComes (e : ℕ) (parts : Parts) (n : HostName) (x y : HostState) (m : Message) : Type 0 where
@@ -32,23 +32,23 @@ pub record OfferComes (e : ℕ) (parts : Parts) (n : HostName) (x y : HostState)
 abbrev pub to_begin : Message → PieceSizes → ℕ → Parts → HostName → HostName → HostState → HostState → Type 0
 to_begin m size e parts n k x y = OfferComes e parts n x y m
 
--- a device that a stop brings home, and that isn't lost then: by what stands in its port, where that is told
-pub record CanStop {P : Type 0} (known : P → Known) (d : DeviceModel P) : Type 0 where
-  pub known_state : IfSome (state_of known d) (λ s. (s.slot ≢ Claimed) × (is_lost (collected s).regs.phase ≡ false))
-  pub unknown_state : state_of known d ≡ None → ((known d.port).is_free ≡ true) × (is_lost d.regs.phase ≡ false)
+-- a device that a stop brings back, and that isn't lost then: by what stands in its port, where that is decoded
+pub record CanStop {P : Type 0} (port_view : P → PortView) (d : DeviceModel P) : Type 0 where
+  pub known_state : IfSome (state_of port_view d) (λ s. (s.slot ≢ Claimed) × (is_lost (collected s).regs.phase ≡ false))
+  pub unknown_state : state_of port_view d ≡ None → ((port_view d.port).is_free ≡ true) × (is_lost d.regs.phase ≡ false)
 
 -- The premises of a move. The source runs, nothing of its device's is claimed, and it isn't lost; there is a TPM behind its wires; the target neither runs
 -- nor offers, and has seen no later epoch. No call on the wires is to fail, nothing waits on their control channels, and these are open.
-pub record CanMove {P Plan : Type 0} (known : P → Known) (source : HostModel P) (w : WiresView Plan) (target : HostModel P) (v : WiresView Plan) : Type 0 where
+pub record CanMove {P Schedule : Type 0} (port_view : P → PortView) (source : HostModel P) (w : WiresView Schedule) (target : HostModel P) (v : WiresView Schedule) : Type 0 where
   pub names : target.name ≡ other source.name
   pub runs : source.stage ≡ Running
   pub rests : is_active target.stage ≡ false
-  pub device : CanStop known source.device
+  pub device : CanStop port_view source.device
   pub below : target.top ≤ source.top
   pub not_last : source.top < 2 ^ 64 - 1
   pub tpm : TpmParts
   pub tpm_is : tpm_behind w.link ≡ Some tpm
-  pub possible : IsFit tpm
+  pub possible : IsValid tpm
   pub least : 1 ≤ blob_piece w.link
   pub most : blob_piece w.link ≤ 4096
   pub source_wires : IsCalm (blob_piece w.link) w

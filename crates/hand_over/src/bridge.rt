@@ -1,16 +1,16 @@
-//! Hosts over told links follow the model. The call does nothing.
+//! Hosts over known links follow the model. The call does nothing.
 ghost use Rattle.std.specs.Prelude.{◌≡◌, ℕ, Option, Some, None, Ok};
-ghost use Rattle.vt_base.specs.declared.words.Kind.{Kind};
+ghost use Rattle.vt_base.specs.declared.types.Kind.{Kind};
 ghost use Rattle.tpm_core.specs.declared.parts.TpmParts.{TpmParts};
-ghost use Rattle.ctrl_client.specs.Link.{Link};
+ghost use Rattle.ctrl_model.specs.Link.{Link};
 ghost use Rattle.ctrl_client.specs.Pieces.{HasField};
 ghost use Rattle.move_codec.specs.declared.message.Message.{Message};
 ghost use Rattle.move_core.specs.declared.answers.Delivered.{Delivered};
 ghost use Rattle.move_core.specs.Model.{HostModel};
 ghost use Rattle.move_core.specs.Hosts.{MatchesSide};
 ghost use Rattle.move_core.specs.declared.stage.MoveStage.TheVariants as stage;
-ghost use Rattle.crb_machine.specs.Values.{DeviceValues, AreFit, held_values};
-ghost use Rattle.tpm_core.specs.Steps.{IsFit};
+ghost use Rattle.crb_machine.specs.Values.{DeviceValues, AreValid, held_values};
+ghost use Rattle.tpm_core.specs.Steps.{IsValid};
 ghost use Rattle.move_core.specs.Requests.{WiresView};
 ghost use Rattle.move_core.specs.Table.{delivered};
 ghost use Rattle.move_core.specs.Calls.{Follows, HasBytes, Offers, GivesUp, said_again};
@@ -21,41 +21,39 @@ ghost use Rattle.hand_over.specs.Fine.{IsUndisturbed, IsFineFor, IsSureStep, off
 
 use crb_port::Port;
 use ctrl_client::Wires;
-use device_record::laws::{records_are_told_apart, records_are_told_once};
-use state_blobs::laws::{blobs_are_told_apart, tpms_are_assembled_once};
 
-/// Over a link that is told and quiet, each call of a host is what the model makes of it.
+/// Over a known and quiet link, each call of a host is what the model makes of it.
 #[tactic(auto, using(crate::proofs::Bridging::delivery, crate::proofs::Offering::offered, crate::proofs::Offering::gave_up, crate::proofs::Offering::said))]
 pub fn hosts_follow_the_model<P: Port, W: Wires>()
-    ensures delivery { (size : PieceSizes) (h new : HostModel P) (m : Message) (w v : WiresView W.Plan) (l : Link) (g : HostState) (answer : Delivered)
-        → w.link ≡ Some l → StandsFor size h l g → MatchesSide h → HasBytes m.body → Follows P.known (delivered h m) w v answer new
+    ensures delivery { (size : PieceSizes) (h new : HostModel P) (m : Message) (w v : WiresView W.Schedule) (l : Link) (g : HostState) (answer : Delivered)
+        → w.link ≡ Some l → StandsFor size h l g → MatchesSide h → HasBytes m.body → Follows P.port_view (delivered h m) w v answer new
         → IsStep size (λ r. model_delivered h.name size g m r) v answer new }
-    ensures offer { (size : PieceSizes) (h new : HostModel P) (w v : WiresView W.Plan) (l : Link) (g : HostState) (m : Message)
-        → w.link ≡ Some l → StandsFor size h l g → ((k : Kind) → HasField k l) → (t : TpmParts) → l.desk.tpm ≡ Some t → Offers P.known h w (Ok m) v new → IsOffer size h new l v.link g m }
+    ensures offer { (size : PieceSizes) (h new : HostModel P) (w v : WiresView W.Schedule) (l : Link) (g : HostState) (m : Message)
+        → w.link ≡ Some l → StandsFor size h l g → ((k : Kind) → HasField k l) → (t : TpmParts) → l.emulator.tpm ≡ Some t → Offers P.port_view h w (Ok m) v new → IsOffer size h new l v.link g m }
     ensures give_up { (size : PieceSizes) (h new : HostModel P) (l : Link) (g : HostState) (m : Message)
-        → StandsFor size h l g → GivesUp P.known h (Some m) new → StandsFor size new l (running g) × (m ≡ abort_message h.name g) }
+        → StandsFor size h l g → GivesUp P.port_view h (Some m) new → StandsFor size new l (running g) × (m ≡ abort_message h.name g) }
     ensures again { (size : PieceSizes) (h : HostModel P) (l : Link) (g : HostState) (m : Message)
         → StandsFor size h l g → said_again h.stage h ≡ Some m → m ≡ prepared_message h.name g }
 {}
 
 /// Where no call on the wires is to fail and a message fits what stands, nothing is refused: the delivery is the model's.
 pub fn fitting_deliveries_are_sure<P: Port, W: Wires>()
-    ensures { (size : PieceSizes) (h new : HostModel P) (m : Message) (w v : WiresView W.Plan) (l : Link) (g : HostState) (answer : Delivered)
-        → w.link ≡ Some l → IsUndisturbed w → StandsFor size h l g → MatchesSide h → HasBytes m.body → IsFineFor m.body h.stage h l.desk
-        → Follows P.known (delivered h m) w v answer new
+    ensures { (size : PieceSizes) (h new : HostModel P) (m : Message) (w v : WiresView W.Schedule) (l : Link) (g : HostState) (answer : Delivered)
+        → w.link ≡ Some l → IsUndisturbed w → StandsFor size h l g → MatchesSide h → HasBytes m.body → IsFineFor m.body h.stage h l.emulator
+        → Follows P.port_view (delivered h m) w v answer new
         → IsSureStep size (model_delivered h.name size g m None) v answer new }
 {
-    blobs_are_told_apart();
-    tpms_are_assembled_once();
-    records_are_told_apart();
+    state_blobs::laws::blobs_are_prefix_free();
+    state_blobs::laws::tpms_are_assembled_once();
+    device_record::laws::records_are_prefix_free();
 }
 
 /// A prepared host holds what its source offered: its device has those values, and its emulator that TPM.
 pub fn prepared_hosts_hold_what_was_offered<P: Port>()
-    ensures { (size : PieceSizes) (h : HostModel P) (l : Link) (y : HostState) (e : ℕ) (values : DeviceValues) (tpm : TpmParts) → AreFit values → IsFit tpm
+    ensures { (size : PieceSizes) (h : HostModel P) (l : Link) (y : HostState) (e : ℕ) (values : DeviceValues) (tpm : TpmParts) → AreValid values → IsValid tpm
         → StandsFor size h l y → MatchesSide h → h.stage ≡ stage.Prepared e → y.content ≡ offered_by values tpm
-        → (held_values h.device ≡ values) × (l.desk.tpm ≡ Some tpm) }
+        → (held_values h.device ≡ values) × (l.emulator.tpm ≡ Some tpm) }
 {
-    records_are_told_once();
-    tpms_are_assembled_once();
+    device_record::laws::record_encoding_is_injective();
+    state_blobs::laws::tpms_are_assembled_once();
 }

@@ -12,10 +12,8 @@ use crate::bridge::fitting_deliveries_are_sure;
 use crate::recovering::{call_off, make_good};
 use crb_port::Port;
 use ctrl_client::Wires;
-use device_record::laws::records_are_told_once;
 use move_codec::Message;
 use move_core::{Delivered, Host};
-use state_blobs::laws::{blobs_are_told_apart, tpms_are_assembled_once};
 use std::alloc::{AllocError, Global};
 
 /// Whether the message of this number is the one that is lost.
@@ -37,22 +35,22 @@ pub fn ask_target<P: Port, W: Wires>(
     to: &mut W,
     m: &Message,
 ) -> Option<Message>
-    requires moving { let w = wires_view W.fails W.later (W.link from.now) (W.plan from.now) (W.faults from.now) (W.traffic from.now) in
-        let v = wires_view W.fails W.later (W.link to.old) (W.plan to.old) (W.faults to.old) (W.traffic to.old) in
-        AreMoving P.known (to_target m.now) source.now w target.old v }
-    ensures goes { let w = wires_view W.fails W.later (W.link from.now) (W.plan from.now) (W.faults from.now) (W.traffic from.now) in
-        let v = wires_view W.fails W.later (W.link to.new) (W.plan to.new) (W.faults to.new) (W.traffic to.new) in
-        TargetGoes P.known source.now w target.old target.new v result }
+    requires moving { let w = wires_view W.fails W.later (W.link from.now) (W.schedule from.now) (W.faults from.now) (W.traffic from.now) in
+        let v = wires_view W.fails W.later (W.link to.old) (W.schedule to.old) (W.faults to.old) (W.traffic to.old) in
+        AreMoving P.port_view (to_target m.now) source.now w target.old v }
+    ensures goes { let w = wires_view W.fails W.later (W.link from.now) (W.schedule from.now) (W.faults from.now) (W.traffic from.now) in
+        let v = wires_view W.fails W.later (W.link to.new) (W.schedule to.new) (W.faults to.new) (W.traffic to.new) in
+        TargetGoes P.port_view source.now w target.old target.new v result }
     ensures pieces { blob_piece (W.link to.new) ≡ blob_piece (W.link to.old) }
     ensures commands { commands_at (W.link to.new) ≡ commands_at (W.link to.old) }
     ensures count { messages_left source.now (W.link from.now) m.now ≡ left_with source.now (W.link from.now) result }
-    ensures target_worker { KeepsWorker (P.known target.old.device.port) (P.known target.new.device.port) }
+    ensures target_worker { KeepsWorker (P.port_view target.old.device.port) (P.port_view target.new.device.port) }
     ensures target_rest { P.rest target.new.device.port ≡ P.rest target.old.device.port }
 {
     fitting_deliveries_are_sure::<P, W>();
-    blobs_are_told_apart();
-    records_are_told_once();
-    tpms_are_assembled_once();
+    state_blobs::laws::blobs_are_prefix_free();
+    device_record::laws::record_encoding_is_injective();
+    state_blobs::laws::tpms_are_assembled_once();
     let Ok(answer) = target.deliver(alloc, m, to) else {
         unreachable!()
     };
@@ -71,19 +69,19 @@ pub fn ask_source<P: Port, W: Wires>(
     to: &W,
     m: &Message,
 ) -> Result<Message, AllocError>
-    requires moving { let w = wires_view W.fails W.later (W.link from.old) (W.plan from.old) (W.faults from.old) (W.traffic from.old) in
-        let v = wires_view W.fails W.later (W.link to.now) (W.plan to.now) (W.faults to.now) (W.traffic to.now) in
-        AreMoving P.known (to_source m.now) source.old w target.now v }
+    requires moving { let w = wires_view W.fails W.later (W.link from.old) (W.schedule from.old) (W.faults from.old) (W.traffic from.old) in
+        let v = wires_view W.fails W.later (W.link to.now) (W.schedule to.now) (W.faults to.now) (W.traffic to.now) in
+        AreMoving P.port_view (to_source m.now) source.old w target.now v }
     ensures moving { IfOk result (λ next.
-        let w = wires_view W.fails W.later (W.link from.new) (W.plan from.new) (W.faults from.new) (W.traffic from.new) in
-        let v = wires_view W.fails W.later (W.link to.now) (W.plan to.now) (W.faults to.now) (W.traffic to.now) in
-        AreMoving P.known (to_target next) source.new w target.now v) }
+        let w = wires_view W.fails W.later (W.link from.new) (W.schedule from.new) (W.faults from.new) (W.traffic from.new) in
+        let v = wires_view W.fails W.later (W.link to.now) (W.schedule to.now) (W.faults to.now) (W.traffic to.now) in
+        AreMoving P.port_view (to_target next) source.new w target.now v) }
     ensures source { source.new ≡ record source.old { stage = source.new.stage; record_bytes = source.new.record_bytes } }
     ensures link { W.link from.new ≡ W.link from.old }
     ensures count { IfOk result (λ next. suc (messages_left source.new (W.link from.new) next) ≡ messages_left source.old (W.link from.old) m.now) }
     ensures same { OnErr result (source.new ≡ source.old) }
     ensures untouched { OnErr result (from.new ≡ from.old) }
-    ensures source_worker { KeepsWorker (P.known source.old.device.port) (P.known source.new.device.port) }
+    ensures source_worker { KeepsWorker (P.port_view source.old.device.port) (P.port_view source.new.device.port) }
     ensures source_rest { P.rest source.new.device.port ≡ P.rest source.old.device.port }
 {
     fitting_deliveries_are_sure::<P, W>();
@@ -109,27 +107,27 @@ pub fn turn<P: Port, W: Wires>(
     number: u32,
     lost: Option<u32>,
 ) -> Result<Option<Message>, AllocError>
-    requires moving { let w = wires_view W.fails W.later (W.link from.old) (W.plan from.old) (W.faults from.old) (W.traffic from.old) in
-        let v = wires_view W.fails W.later (W.link to.old) (W.plan to.old) (W.faults to.old) (W.traffic to.old) in
-        AreMoving P.known (to_source m.now) source.old w target.old v }
+    requires moving { let w = wires_view W.fails W.later (W.link from.old) (W.schedule from.old) (W.faults from.old) (W.traffic from.old) in
+        let v = wires_view W.fails W.later (W.link to.old) (W.schedule to.old) (W.faults to.old) (W.traffic to.old) in
+        AreMoving P.port_view (to_source m.now) source.old w target.old v }
     requires count { number + messages_left source.old (W.link from.old) m.now ≡ 2 * pieces_from source.old (W.link from.old) + 3 }
     requires ahead { IfSome lost (λ k. number < k) }
     requires small { number < 100000 }
     ensures goes { IfOk result (λ reply.
-        let w = wires_view W.fails W.later (W.link from.new) (W.plan from.new) (W.faults from.new) (W.traffic from.new) in
-        let v = wires_view W.fails W.later (W.link to.new) (W.plan to.new) (W.faults to.new) (W.traffic to.new) in
-        TurnGoes P.known source.old source.new w target.old target.new v number lost reply) }
-    ensures back { OnErr result (IsTakenBack P.known source.old source.old.device target.old source.old.top source.new target.new) }
+        let w = wires_view W.fails W.later (W.link from.new) (W.schedule from.new) (W.faults from.new) (W.traffic from.new) in
+        let v = wires_view W.fails W.later (W.link to.new) (W.schedule to.new) (W.faults to.new) (W.traffic to.new) in
+        TurnGoes P.port_view source.old source.new w target.old target.new v number lost reply) }
+    ensures back { OnErr result (IsTakenBack P.port_view source.old source.old.device target.old source.old.top source.new target.new) }
     ensures link { W.link from.new ≡ W.link from.old }
-    ensures calm { IsCalm (blob_piece (W.link from.old)) (wires_view W.fails W.later (W.link from.new) (W.plan from.new) (W.faults from.new) (W.traffic from.new)) }
-    ensures target_calm { IsCalm (blob_piece (W.link to.old)) (wires_view W.fails W.later (W.link to.new) (W.plan to.new) (W.faults to.new) (W.traffic to.new)) }
+    ensures calm { IsCalm (blob_piece (W.link from.old)) (wires_view W.fails W.later (W.link from.new) (W.schedule from.new) (W.faults from.new) (W.traffic from.new)) }
+    ensures target_calm { IsCalm (blob_piece (W.link to.old)) (wires_view W.fails W.later (W.link to.new) (W.schedule to.new) (W.faults to.new) (W.traffic to.new)) }
     ensures commands { commands_at (W.link to.new) ≡ commands_at (W.link to.old) }
-    ensures source_worker { KeepsWorker (P.known source.old.device.port) (P.known source.new.device.port) }
+    ensures source_worker { KeepsWorker (P.port_view source.old.device.port) (P.port_view source.new.device.port) }
     ensures source_rest { P.rest source.new.device.port ≡ P.rest source.old.device.port }
-    ensures target_worker { KeepsWorker (P.known target.old.device.port) (P.known target.new.device.port) }
+    ensures target_worker { KeepsWorker (P.port_view target.old.device.port) (P.port_view target.new.device.port) }
     ensures target_rest { P.rest target.new.device.port ≡ P.rest target.old.device.port }
 {
-    blobs_are_told_apart();
+    state_blobs::laws::blobs_are_prefix_free();
     let next = match ask_source(alloc, source, from, target, to, m) {
         Ok(next) => next,
         Err(e) => {

@@ -26,13 +26,13 @@ pub fn call_off<P: Port, W: Wires>(
 )
     requires offers { side_of source.old.stage ≡ Side.Offering source.old.top }
     requires names { target.old.name ≡ other source.old.name }
-    ensures resumes { Resumed P.known source.old source.new }
+    ensures resumes { Resumed P.port_view source.old source.new }
     ensures aborts { target.new ≡ aborted target.old.stage source.old.top target.old }
-    ensures wires { wires_view W.fails W.later (W.link to.new) (W.plan to.new) (W.faults to.new) (W.traffic to.new)
-        ≡ wires_view W.fails W.later (W.link to.old) (W.plan to.old) (W.faults to.old) (W.traffic to.old) }
-    ensures source_worker { KeepsWorker (P.known source.old.device.port) (P.known source.new.device.port) }
+    ensures wires { wires_view W.fails W.later (W.link to.new) (W.schedule to.new) (W.faults to.new) (W.traffic to.new)
+        ≡ wires_view W.fails W.later (W.link to.old) (W.schedule to.old) (W.faults to.old) (W.traffic to.old) }
+    ensures source_worker { KeepsWorker (P.port_view source.old.device.port) (P.port_view source.new.device.port) }
     ensures source_rest { P.rest source.new.device.port ≡ P.rest source.old.device.port }
-    ensures target_worker { KeepsWorker (P.known target.old.device.port) (P.known target.new.device.port) }
+    ensures target_worker { KeepsWorker (P.port_view target.old.device.port) (P.port_view target.new.device.port) }
     ensures target_rest { P.rest target.new.device.port ≡ P.rest target.old.device.port }
 {
     let Some(abort) = source.give_up() else {
@@ -51,16 +51,16 @@ fn commit_again<P: Port, W: Wires>(
     target: &Host<P>,
     to: &W,
 ) -> Message
-    requires moving { let w = wires_view W.fails W.later (W.link from.old) (W.plan from.old) (W.faults from.old) (W.traffic from.old) in
-        let v = wires_view W.fails W.later (W.link to.now) (W.plan to.now) (W.faults to.now) (W.traffic to.now) in
-        (m : Message) × AreMoving P.known (to_target m) source.old w target.now v }
+    requires moving { let w = wires_view W.fails W.later (W.link from.old) (W.schedule from.old) (W.faults from.old) (W.traffic from.old) in
+        let v = wires_view W.fails W.later (W.link to.now) (W.schedule to.now) (W.faults to.now) (W.traffic to.now) in
+        (m : Message) × AreMoving P.port_view (to_target m) source.old w target.now v }
     requires let_go { has_let_go source.old.stage ≡ true }
-    ensures moving { let w = wires_view W.fails W.later (W.link from.new) (W.plan from.new) (W.faults from.new) (W.traffic from.new) in
-        let v = wires_view W.fails W.later (W.link to.now) (W.plan to.now) (W.faults to.now) (W.traffic to.now) in
-        AreMoving P.known (to_target result) source.new w target.now v }
+    ensures moving { let w = wires_view W.fails W.later (W.link from.new) (W.schedule from.new) (W.faults from.new) (W.traffic from.new) in
+        let v = wires_view W.fails W.later (W.link to.now) (W.schedule to.now) (W.faults to.now) (W.traffic to.now) in
+        AreMoving P.port_view (to_target result) source.new w target.now v }
     ensures same { source.new ≡ source.old }
     ensures link { W.link from.new ≡ W.link from.old }
-    ensures source_worker { KeepsWorker (P.known source.old.device.port) (P.known source.new.device.port) }
+    ensures source_worker { KeepsWorker (P.port_view source.old.device.port) (P.port_view source.new.device.port) }
     ensures source_rest { P.rest source.new.device.port ≡ P.rest source.old.device.port }
 {
     let Some(prepared) = target.again() else {
@@ -84,18 +84,18 @@ pub fn make_good<P: Port, W: Wires>(
     target: &mut Host<P>,
     to: &mut W,
 )
-    requires moving { let w = wires_view W.fails W.later (W.link from.old) (W.plan from.old) (W.faults from.old) (W.traffic from.old) in
-        let v = wires_view W.fails W.later (W.link to.old) (W.plan to.old) (W.faults to.old) (W.traffic to.old) in
-        (m : Message) × AreMoving P.known (to_target m) source.old w target.old v }
-    ensures ends { let v = wires_view W.fails W.later (W.link to.new) (W.plan to.new) (W.faults to.new) (W.traffic to.new) in
-        Ends (has_let_go source.old.stage) P.known source.old source.old.device (tpm_behind (W.link from.old)) target.old source.old.top source.new target.new v }
+    requires moving { let w = wires_view W.fails W.later (W.link from.old) (W.schedule from.old) (W.faults from.old) (W.traffic from.old) in
+        let v = wires_view W.fails W.later (W.link to.old) (W.schedule to.old) (W.faults to.old) (W.traffic to.old) in
+        (m : Message) × AreMoving P.port_view (to_target m) source.old w target.old v }
+    ensures ends { let v = wires_view W.fails W.later (W.link to.new) (W.schedule to.new) (W.faults to.new) (W.traffic to.new) in
+        Ends (has_let_go source.old.stage) P.port_view source.old source.old.device (tpm_behind (W.link from.old)) target.old source.old.top source.new target.new v }
     ensures link { W.link from.new ≡ W.link from.old }
-    ensures calm { IsCalm (blob_piece (W.link from.old)) (wires_view W.fails W.later (W.link from.new) (W.plan from.new) (W.faults from.new) (W.traffic from.new)) }
-    ensures target_calm { IsCalm (blob_piece (W.link to.old)) (wires_view W.fails W.later (W.link to.new) (W.plan to.new) (W.faults to.new) (W.traffic to.new)) }
+    ensures calm { IsCalm (blob_piece (W.link from.old)) (wires_view W.fails W.later (W.link from.new) (W.schedule from.new) (W.faults from.new) (W.traffic from.new)) }
+    ensures target_calm { IsCalm (blob_piece (W.link to.old)) (wires_view W.fails W.later (W.link to.new) (W.schedule to.new) (W.faults to.new) (W.traffic to.new)) }
     ensures commands { commands_at (W.link to.new) ≡ commands_at (W.link to.old) }
-    ensures source_worker { KeepsWorker (P.known source.old.device.port) (P.known source.new.device.port) }
+    ensures source_worker { KeepsWorker (P.port_view source.old.device.port) (P.port_view source.new.device.port) }
     ensures source_rest { P.rest source.new.device.port ≡ P.rest source.old.device.port }
-    ensures target_worker { KeepsWorker (P.known target.old.device.port) (P.known target.new.device.port) }
+    ensures target_worker { KeepsWorker (P.port_view target.old.device.port) (P.port_view target.new.device.port) }
     ensures target_rest { P.rest target.new.device.port ≡ P.rest target.old.device.port }
 {
     match source.side() {

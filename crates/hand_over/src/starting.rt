@@ -15,7 +15,6 @@ use crb_port::Port;
 use ctrl_client::Wires;
 use move_codec::Message;
 use move_core::{Delivered, Host};
-use state_blobs::laws::blobs_are_told_apart;
 use std::alloc::Global;
 
 /// The source offers its guest.
@@ -25,22 +24,22 @@ pub fn ask_offer<P: Port, W: Wires>(
     target: &Host<P>,
     to: &W,
 ) -> Message
-    requires can { let w = wires_view W.fails W.later (W.link from.old) (W.plan from.old) (W.faults from.old) (W.traffic from.old) in
-        let v = wires_view W.fails W.later (W.link to.now) (W.plan to.now) (W.faults to.now) (W.traffic to.now) in
-        CanMove P.known source.old w target.now v }
-    requires source_sound { IsConsistentHost P.known source.old }
-    requires target_sound { IsConsistentHost P.known target.now }
-    ensures moving { let w = wires_view W.fails W.later (W.link from.new) (W.plan from.new) (W.faults from.new) (W.traffic from.new) in
-        let v = wires_view W.fails W.later (W.link to.now) (W.plan to.now) (W.faults to.now) (W.traffic to.now) in
-        AreMoving P.known (to_begin result) source.new w (emptied target.now) v }
+    requires can { let w = wires_view W.fails W.later (W.link from.old) (W.schedule from.old) (W.faults from.old) (W.traffic from.old) in
+        let v = wires_view W.fails W.later (W.link to.now) (W.schedule to.now) (W.faults to.now) (W.traffic to.now) in
+        CanMove P.port_view source.old w target.now v }
+    requires source_consistent { IsConsistentHost P.port_view source.old }
+    requires target_consistent { IsConsistentHost P.port_view target.now }
+    ensures moving { let w = wires_view W.fails W.later (W.link from.new) (W.schedule from.new) (W.faults from.new) (W.traffic from.new) in
+        let v = wires_view W.fails W.later (W.link to.now) (W.schedule to.now) (W.faults to.now) (W.traffic to.now) in
+        AreMoving P.port_view (to_begin result) source.new w (emptied target.now) v }
     ensures source { source.new ≡ record source.old { top = source.old.top + 1; stage = source.new.stage; record_bytes = source.new.record_bytes; device = source.new.device } }
-    ensures stops { Stops P.known source.old.device (Ok tt) source.new.device }
+    ensures stops { Stops P.port_view source.old.device (Ok tt) source.new.device }
     ensures link { W.link from.new ≡ W.link from.old }
     ensures count { messages_left source.new (W.link from.new) result ≡ 2 * pieces_from source.new (W.link from.new) + 2 }
-    ensures source_worker { KeepsWorker (P.known source.old.device.port) (P.known source.new.device.port) }
+    ensures source_worker { KeepsWorker (P.port_view source.old.device.port) (P.port_view source.new.device.port) }
     ensures source_rest { P.rest source.new.device.port ≡ P.rest source.old.device.port }
 {
-    blobs_are_told_apart();
+    state_blobs::laws::blobs_are_prefix_free();
     stopped_devices_go_on::<P>();
     match source.offer(from) {
         Ok(m) => m,
@@ -57,22 +56,22 @@ pub fn take_offer<P: Port, W: Wires>(
     to: &mut W,
     m: &Message,
 ) -> Message
-    requires moving { let w = wires_view W.fails W.later (W.link from.now) (W.plan from.now) (W.faults from.now) (W.traffic from.now) in
-        let v = wires_view W.fails W.later (W.link to.old) (W.plan to.old) (W.faults to.old) (W.traffic to.old) in
-        AreMoving P.known (to_begin m.now) source.now w (emptied target.old) v }
+    requires moving { let w = wires_view W.fails W.later (W.link from.now) (W.schedule from.now) (W.faults from.now) (W.traffic from.now) in
+        let v = wires_view W.fails W.later (W.link to.old) (W.schedule to.old) (W.faults to.old) (W.traffic to.old) in
+        AreMoving P.port_view (to_begin m.now) source.now w (emptied target.old) v }
     requires rests { is_active target.old.stage ≡ false }
-    ensures moving { let w = wires_view W.fails W.later (W.link from.now) (W.plan from.now) (W.faults from.now) (W.traffic from.now) in
-        let v = wires_view W.fails W.later (W.link to.new) (W.plan to.new) (W.faults to.new) (W.traffic to.new) in
-        AreMoving P.known (to_source result) source.now w target.new v }
+    ensures moving { let w = wires_view W.fails W.later (W.link from.now) (W.schedule from.now) (W.faults from.now) (W.traffic from.now) in
+        let v = wires_view W.fails W.later (W.link to.new) (W.schedule to.new) (W.faults to.new) (W.traffic to.new) in
+        AreMoving P.port_view (to_source result) source.now w target.new v }
     ensures target { target.new ≡ record target.old { top = source.now.top; stage = target.new.stage; record_bytes = target.new.record_bytes } }
     ensures pieces { blob_piece (W.link to.new) ≡ blob_piece (W.link to.old) }
     ensures commands { commands_at (W.link to.new) ≡ commands_at (W.link to.old) }
     ensures count { suc (messages_left source.now (W.link from.now) result) ≡ messages_left source.now (W.link from.now) m.now }
-    ensures target_worker { KeepsWorker (P.known target.old.device.port) (P.known target.new.device.port) }
+    ensures target_worker { KeepsWorker (P.port_view target.old.device.port) (P.port_view target.new.device.port) }
     ensures target_rest { P.rest target.new.device.port ≡ P.rest target.old.device.port }
 {
     fitting_deliveries_are_sure::<P, W>();
-    blobs_are_told_apart();
+    state_blobs::laws::blobs_are_prefix_free();
     let Ok(answer) = target.deliver(alloc, m, to) else {
         unreachable!()
     };

@@ -28,22 +28,22 @@ fn carry_on<P: Port, W: Wires>(
     need: Message,
     lost: Option<u32>,
 ) -> Result<(), AllocError>
-    requires moving { let w = wires_view W.fails W.later (W.link from.old) (W.plan from.old) (W.faults from.old) (W.traffic from.old) in
-        let v = wires_view W.fails W.later (W.link to.old) (W.plan to.old) (W.faults to.old) (W.traffic to.old) in
-        AreMoving P.known (to_source need) source.old w target.old v }
+    requires moving { let w = wires_view W.fails W.later (W.link from.old) (W.schedule from.old) (W.faults from.old) (W.traffic from.old) in
+        let v = wires_view W.fails W.later (W.link to.old) (W.schedule to.old) (W.faults to.old) (W.traffic to.old) in
+        AreMoving P.port_view (to_source need) source.old w target.old v }
     requires count { messages_left source.old (W.link from.old) need ≡ 2 * pieces_from source.old (W.link from.old) + 1 }
     requires ahead { IfSome lost (λ k. 2 ≤ k) }
     ensures ends { OnOk result (
-        let v = wires_view W.fails W.later (W.link to.new) (W.plan to.new) (W.faults to.new) (W.traffic to.new) in
-        Ends (arrives (pieces_from source.old (W.link from.old)) lost) P.known source.old source.old.device (tpm_behind (W.link from.old)) target.old source.old.top source.new target.new v) }
-    ensures back { OnErr result (IsTakenBack P.known source.old source.old.device target.old source.old.top source.new target.new) }
+        let v = wires_view W.fails W.later (W.link to.new) (W.schedule to.new) (W.faults to.new) (W.traffic to.new) in
+        Ends (arrives (pieces_from source.old (W.link from.old)) lost) P.port_view source.old source.old.device (tpm_behind (W.link from.old)) target.old source.old.top source.new target.new v) }
+    ensures back { OnErr result (IsTakenBack P.port_view source.old source.old.device target.old source.old.top source.new target.new) }
     ensures link { W.link from.new ≡ W.link from.old }
-    ensures calm { IsCalm (blob_piece (W.link from.old)) (wires_view W.fails W.later (W.link from.new) (W.plan from.new) (W.faults from.new) (W.traffic from.new)) }
-    ensures target_calm { IsCalm (blob_piece (W.link to.old)) (wires_view W.fails W.later (W.link to.new) (W.plan to.new) (W.faults to.new) (W.traffic to.new)) }
+    ensures calm { IsCalm (blob_piece (W.link from.old)) (wires_view W.fails W.later (W.link from.new) (W.schedule from.new) (W.faults from.new) (W.traffic from.new)) }
+    ensures target_calm { IsCalm (blob_piece (W.link to.old)) (wires_view W.fails W.later (W.link to.new) (W.schedule to.new) (W.faults to.new) (W.traffic to.new)) }
     ensures commands { commands_at (W.link to.new) ≡ commands_at (W.link to.old) }
-    ensures source_worker { KeepsWorker (P.known source.old.device.port) (P.known source.new.device.port) }
+    ensures source_worker { KeepsWorker (P.port_view source.old.device.port) (P.port_view source.new.device.port) }
     ensures source_rest { P.rest source.new.device.port ≡ P.rest source.old.device.port }
-    ensures target_worker { KeepsWorker (P.known target.old.device.port) (P.known target.new.device.port) }
+    ensures target_worker { KeepsWorker (P.port_view target.old.device.port) (P.port_view target.new.device.port) }
     ensures target_rest { P.rest target.new.device.port ≡ P.rest target.old.device.port }
 {
     let mut m = need;
@@ -73,23 +73,23 @@ pub fn move_guest<P: Port, W: Wires>(
     target_wires: &mut W,
     lost: Option<u32>,
 ) -> Result<(), AllocError>
-    requires can_move { let w = wires_view W.fails W.later (W.link source_wires.old) (W.plan source_wires.old) (W.faults source_wires.old) (W.traffic source_wires.old) in
-        let v = wires_view W.fails W.later (W.link target_wires.old) (W.plan target_wires.old) (W.faults target_wires.old) (W.traffic target_wires.old) in
-        CanMove P.known source.old w target.old v }
+    requires can_move { let w = wires_view W.fails W.later (W.link source_wires.old) (W.schedule source_wires.old) (W.faults source_wires.old) (W.traffic source_wires.old) in
+        let v = wires_view W.fails W.later (W.link target_wires.old) (W.schedule target_wires.old) (W.faults target_wires.old) (W.traffic target_wires.old) in
+        CanMove P.port_view source.old w target.old v }
     requires counted { IfSome lost (λ k. 1 ≤ k) }
     ensures moved { OnOk result (
-        let w = wires_view W.fails W.later (W.link source_wires.old) (W.plan source_wires.old) (W.faults source_wires.old) (W.traffic source_wires.old) in
-        let v = wires_view W.fails W.later (W.link target_wires.new) (W.plan target_wires.new) (W.faults target_wires.new) (W.traffic target_wires.new) in
-        HasMoved P.known source.old w target.old lost source.new target.new v) }
-    ensures given_up { OnErr result (IsGivenUp P.known source.old target.old source.new target.new) }
+        let w = wires_view W.fails W.later (W.link source_wires.old) (W.schedule source_wires.old) (W.faults source_wires.old) (W.traffic source_wires.old) in
+        let v = wires_view W.fails W.later (W.link target_wires.new) (W.schedule target_wires.new) (W.faults target_wires.new) (W.traffic target_wires.new) in
+        HasMoved P.port_view source.old w target.old lost source.new target.new v) }
+    ensures given_up { OnErr result (IsGivenUp P.port_view source.old target.old source.new target.new) }
     ensures source_top { source.new.top ≡ source.old.top + 1 }
     ensures source_link { W.link source_wires.new ≡ W.link source_wires.old }
-    ensures source_calm { IsCalm (blob_piece (W.link source_wires.old)) (wires_view W.fails W.later (W.link source_wires.new) (W.plan source_wires.new) (W.faults source_wires.new) (W.traffic source_wires.new)) }
-    ensures target_calm { IsCalm (blob_piece (W.link target_wires.old)) (wires_view W.fails W.later (W.link target_wires.new) (W.plan target_wires.new) (W.faults target_wires.new) (W.traffic target_wires.new)) }
+    ensures source_calm { IsCalm (blob_piece (W.link source_wires.old)) (wires_view W.fails W.later (W.link source_wires.new) (W.schedule source_wires.new) (W.faults source_wires.new) (W.traffic source_wires.new)) }
+    ensures target_calm { IsCalm (blob_piece (W.link target_wires.old)) (wires_view W.fails W.later (W.link target_wires.new) (W.schedule target_wires.new) (W.faults target_wires.new) (W.traffic target_wires.new)) }
     ensures target_commands { commands_at (W.link target_wires.new) ≡ commands_at (W.link target_wires.old) }
-    ensures source_worker { KeepsWorker (P.known source.old.device.port) (P.known source.new.device.port) }
+    ensures source_worker { KeepsWorker (P.port_view source.old.device.port) (P.port_view source.new.device.port) }
     ensures source_rest { P.rest source.new.device.port ≡ P.rest source.old.device.port }
-    ensures target_worker { KeepsWorker (P.known target.old.device.port) (P.known target.new.device.port) }
+    ensures target_worker { KeepsWorker (P.port_view target.old.device.port) (P.port_view target.new.device.port) }
     ensures target_rest { P.rest target.new.device.port ≡ P.rest target.old.device.port }
 {
     let _sides = (source.side(), target.side());

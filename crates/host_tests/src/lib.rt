@@ -4,8 +4,8 @@
 #![tactic(auto)]
 
 #[cfg(test)]
-mod pair;
+mod pair_tests;
 #[cfg(test)]
-mod saved;
+mod saved_stream_tests;
 #[cfg(test)]
-mod world;
+mod vt_world_tests;

@@ -1,4 +1,4 @@
--- Before the first byte nothing is told.
+-- Before the first byte nothing is decoded.
 use Rattle.std.proofs.Common.{◌≡◌, ℕ, List, [], arith}
 use Rattle.vt_base.specs.Layout.{HasFirst, IsOpen}
 use Rattle.vt_base.proofs.Layouts.{open_start}

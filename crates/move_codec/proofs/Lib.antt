@@ -4,6 +4,6 @@ pub mod Named
 pub mod Says
 pub mod Sent
 pub mod Steps
-pub mod Told
+pub mod Decoding
 pub mod Writes
-pub mod Marked
+pub mod MagicRead

@@ -4,7 +4,7 @@ use Rattle.std.proofs.lemmas.List.{length-append}
 use Rattle.vt_base.specs.Numbers.{number}
 use Rattle.move_codec.specs.declared.message.Body.{Body}
 use Rattle.move_codec.specs.declared.message.Body.TheVariants.{Offer, Need, Piece, Prepared, Commit, Abort, Refuse}
-use Rattle.move_codec.specs.Spelling.{HasPiece, IsInRange, fields_of, numbers}
+use Rattle.move_codec.specs.Encoding.{HasPiece, IsInRange, fields_of, numbers}
 
 pub length-numbers : (ns : List ℕ) → length (numbers ns) ≡ 4 * length ns
 length-numbers [] = omega arith

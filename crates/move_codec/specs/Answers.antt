@@ -1,10 +1,10 @@
 -- What a piece of a stream makes of a reader of migration messages, and what it answers. (Own definitions.)
 use Rattle.std.specs.Prelude.{ℕ, List, [], ◌++◌, Bool, true, false, ⊤}
-use Rattle.vt_base.specs.declared.words.Malformed.{Malformed}
+use Rattle.vt_base.specs.declared.types.Malformed.{Malformed}
 use Rattle.move_codec.specs.declared.message.Message.{Message}
 use Rattle.move_codec.specs.declared.reader.FedMessage.{FedMessage}
 use Rattle.move_codec.specs.declared.reader.FedMessage.TheVariants.{More, Whole, Bad, Failed}
-use Rattle.move_codec.specs.Reading.{Reading}
+use Rattle.move_codec.specs.Reading.{MessageReaderState}
 
 -- ---- a fact for one answer
 
@@ -39,7 +39,7 @@ is_failed (Whole m) = false
 is_failed (Bad fault) = false
 
 -- the reader after it answered so to this piece
-abbrev pub after : Reading → List ℕ → FedMessage → Reading
+abbrev pub after : MessageReaderState → List ℕ → FedMessage → MessageReaderState
 after old piece More = record { begun = old.begun ++ piece; failed = old.failed }
 after old piece (Whole m) = record { begun = []; failed = old.failed }
 after old piece (Bad fault) = record { begun = []; failed = true }

@@ -5,6 +5,6 @@ pub mod Outlines
 pub mod Reading
 pub mod Refusals
 pub mod Room
-pub mod Spelling
+pub mod Encoding
 pub mod Streams
-pub mod Told
+pub mod Ends

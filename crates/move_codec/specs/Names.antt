@@ -1,7 +1,7 @@
 -- The names that stand in a message as one byte, and how long the kinds of messages are. (Own definitions.)
 use Rattle.std.specs.Prelude.{ℕ, ◌==◌, Bool, nat_lt, List, [], ◌∷◌, Option, find}
-use Rattle.move_codec.specs.declared.names.HostName.{HostName}
-use Rattle.move_codec.specs.declared.names.HostName.TheVariants.{A, B}
+use Rattle.vt_base.specs.declared.types.HostName.{HostName}
+use Rattle.vt_base.specs.declared.types.HostName.TheVariants.{A, B}
 use Rattle.move_codec.specs.declared.names.Part.{Part}
 use Rattle.move_codec.specs.declared.names.Part.TheVariants as part
 use Rattle.move_codec.specs.declared.names.Reason.{Reason}

@@ -1,16 +1,16 @@
 -- What a reader of migration messages refuses, row by row. The bytes end with the field that is refused. (Own format.)
 use Rattle.std.specs.Prelude.{◌≡◌, ◌≢◌, ℕ, ◌+◌, ◌≤◌, ◌<◌, ◌^◌, ◌⊎◌, List, [], ◌∷◌, ◌++◌, take, slice_index, true, false, ⊤}
 use Rattle.vt_base.specs.Numbers.{short, number}
-use Rattle.vt_base.specs.declared.words.Why.TheVariants as why
-use Rattle.vt_base.specs.declared.words.Malformed.{Malformed}
+use Rattle.vt_base.specs.declared.types.Why.TheVariants as why
+use Rattle.vt_base.specs.declared.types.Malformed.{Malformed}
 use Rattle.vt_base.specs.Refusing.{malformed}
 use Rattle.move_codec.specs.declared.message.Message.{Message}
-use Rattle.move_codec.specs.declared.names.HostName.{HostName}
+use Rattle.vt_base.specs.declared.types.HostName.{HostName}
 use Rattle.move_codec.specs.declared.names.Part.{Part}
 use Rattle.move_codec.specs.declared.names.Kind.{Kind}
 use Rattle.move_codec.specs.declared.names.Kind.TheVariants.{Offer, Need, Piece, Prepared, Commit, Abort, Refuse}
 use Rattle.move_codec.specs.Names.{part_byte, kind_byte, fits}
-use Rattle.move_codec.specs.Spelling.{magic, before_length, before_kind, before_receiver, before_body, Moves}
+use Rattle.move_codec.specs.Encoding.{magic, before_length, before_kind, before_receiver, before_body, Moves}
 
 abbrev pub IsOutside : ℕ → ℕ → ℕ → Type 0
 IsOutside low high n = (n < low) ⊎ (high < n)

@@ -3,18 +3,18 @@ use Rattle.std.specs.Prelude.{ℕ, ◌≡◌, ◌≤◌, ◌-◌, ◌+◌, ◌||
 use Rattle.std.specs.Int.{w16, w32, w64, from_be_bytes}
 use Rattle.std.proofs.Common.{lit≤}
 use Rattle.std.proofs.lemmas.Bool.{ltb-false}
-use Rattle.vt_base.specs.declared.words.Why.TheVariants.{Length, Value}
-use Rattle.vt_base.specs.declared.words.Malformed.{Malformed}
+use Rattle.vt_base.specs.declared.types.Why.TheVariants.{Length, Value}
+use Rattle.vt_base.specs.declared.types.Malformed.{Malformed}
 use Rattle.vt_base.specs.Layout.{Layout, Field, IsWithin}
 use Rattle.vt_base.specs.Refusing.{refuse}
-use Rattle.vt_base.specs.Within.{either_within, mark_within}
-use Rattle.move_codec.specs.declared.names.HostName.{HostName}
+use Rattle.vt_base.specs.Within.{either_within, magic_byte_within}
+use Rattle.vt_base.specs.declared.types.HostName.{HostName}
 use Rattle.move_codec.specs.declared.names.Part.{Part}
 use Rattle.move_codec.specs.declared.names.Kind.{Kind}
 use Rattle.move_codec.specs.declared.names.Kind.TheVariants.{Offer, Need, Piece, Prepared, Commit, Abort, Refuse}
 use Rattle.move_codec.specs.declared.outline.Shape.TheVariants as shape
 use Rattle.move_codec.specs.Names.{named, host_byte, hosts, part_byte, parts, reason_byte, reasons, kind_byte, kinds, fits}
-use Rattle.move_codec.specs.Messages.{whole, name_next, name_then, bytes_of, body_of, receiver, after_kind, after_length, messages}
+use Rattle.move_codec.specs.Messages.{with_message, name_next, name_then, bytes_of, body_of, receiver, after_kind, after_length, messages}
 
 next_within : {X V : Type 0} (place : ℕ) (next : X → Layout (Result V Malformed)) (name : Option X) (room : ℕ) → ((x : X) → IsWithin (next x) room) → IsWithin (name_next place next name) room
 next_within place next None room h = tt
@@ -29,8 +29,8 @@ or_false false b e = e
 
 bytes_within : (len : ℕ) (to : HostName) (epoch : ℕ) (part : Part) (offset count : ℕ) → IsWithin (bytes_of len to epoch part offset count) 4096
 bytes_within len to epoch part offset count =
-    either_within (eqb count 0 || nat_lt 4096 count) (refuse Value 24) (cond (eqb (17 + count) len) (Field count (λ _. whole to epoch (shape.Piece part offset))) (refuse Length 24)) 4096 (λ _. tt) (λ small.
-    either_within (eqb (17 + count) len) (Field count (λ _. whole to epoch (shape.Piece part offset))) (refuse Length 24) 4096
+    either_within (eqb count 0 || nat_lt 4096 count) (refuse Value 24) (cond (eqb (17 + count) len) (Field count (λ _. with_message to epoch (shape.Piece part offset))) (refuse Length 24)) 4096 (λ _. tt) (λ small.
+    either_within (eqb (17 + count) len) (Field count (λ _. with_message to epoch (shape.Piece part offset))) (refuse Length 24) 4096
     (λ _. (ltb-false _ _ (or_false (eqb count 0) (nat_lt 4096 count) small), λ _. tt)) (λ _. tt))
 
 body_within : (k : Kind) (len : ℕ) (to : HostName) (epoch : ℕ) → IsWithin (body_of k len to epoch) 4103
@@ -50,5 +50,5 @@ length_within len = either_within (nat_lt len 10 || nat_lt 4113 len) (refuse Len
 
 pub messages_within : IsWithin messages 4122
 unfolding messages
-messages_within = mark_within 67 _ 0 _ 4122 (lit≤ tt) (mark_within 82 _ 1 _ 4121 (lit≤ tt) (mark_within 66 _ 2 _ 4120 (lit≤ tt) (mark_within 77 _ 3 _ 4119 (lit≤ tt)
-    (mark_within 1 _ 4 _ 4118 (lit≤ tt) (lit≤ tt, λ len. length_within (from_be_bytes w32 len))))))
+messages_within = magic_byte_within 67 _ 0 _ 4122 (lit≤ tt) (magic_byte_within 82 _ 1 _ 4121 (lit≤ tt) (magic_byte_within 66 _ 2 _ 4120 (lit≤ tt) (magic_byte_within 77 _ 3 _ 4119 (lit≤ tt)
+    (magic_byte_within 1 _ 4 _ 4118 (lit≤ tt) (lit≤ tt, λ len. length_within (from_be_bytes w32 len))))))

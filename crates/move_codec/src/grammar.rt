@@ -1,6 +1,6 @@
-// How migration messages are told from the left.
+// How migration messages are parsed from left to right.
 ghost use Rattle.std.specs.Prelude.{◌≡◌};
-ghost use Rattle.vt_base.specs.Verdict.{judged};
+ghost use Rattle.vt_base.specs.Parsing.{parsed};
 ghost use Rattle.move_codec.specs.Messages.{offer, need, piece, refusal, body_of, receiver, after_length, after_magic, messages};
 ghost use Rattle.move_codec.specs.Room.{messages_within};
 
@@ -8,18 +8,18 @@ use crate::format::{
     BARE_LENGTH, BODY_PLACE, COUNT_PLACE, KIND_PLACE, LARGEST_LENGTH, LARGEST_PIECE, LENGTH_PLACE,
     MAGIC, PIECE_LENGTH, RECEIVER_PLACE, VERSION, VERSION_PLACE,
 };
-use crate::names::{HostName, Kind, Part, Reason};
+use crate::names::{Kind, Part, Reason, host_from_byte};
 use crate::outline::{Outline, Shape};
 use vt_base::{
-    Grammar, Judged, Malformed, Missing, Why, behind_magic, byte_of, field_of, long_of, number_of,
-    refused, short_of,
+    Grammar, HostName, Malformed, Missing, Parsed, Why, behind_magic, byte_of, field_of, long_of,
+    number_of, refused, short_of,
 };
 
 /// The grammar of migration messages.
 pub(crate) struct Messages;
 
-fn offer_of(to: HostName, epoch: u64, rest: &[u8]) -> Judged<Outline>
-    ensures { result ≡ judged (offer to epoch) rest.now }
+fn offer_of(to: HostName, epoch: u64, rest: &[u8]) -> Parsed<Outline>
+    ensures { result ≡ parsed (offer to epoch) rest.now }
 {
     let (record, rest) = number_of(rest)?;
     let (permanent, rest) = number_of(rest)?;
@@ -30,8 +30,8 @@ fn offer_of(to: HostName, epoch: u64, rest: &[u8]) -> Judged<Outline>
     Ok(Ok(Outline { to, epoch, shape }))
 }
 
-fn need_of(to: HostName, epoch: u64, rest: &[u8]) -> Judged<Outline>
-    ensures { result ≡ judged (need to epoch) rest.now }
+fn need_of(to: HostName, epoch: u64, rest: &[u8]) -> Parsed<Outline>
+    ensures { result ≡ parsed (need to epoch) rest.now }
 {
     let (part, rest) = byte_of(rest)?;
     let Some(part) = Part::from_byte(part) else {
@@ -42,8 +42,8 @@ fn need_of(to: HostName, epoch: u64, rest: &[u8]) -> Judged<Outline>
     Ok(Ok(Outline { to, epoch, shape }))
 }
 
-fn piece_of(length: u32, to: HostName, epoch: u64, rest: &[u8]) -> Judged<Outline>
-    ensures { result ≡ judged (piece length to epoch) rest.now }
+fn piece_of(length: u32, to: HostName, epoch: u64, rest: &[u8]) -> Parsed<Outline>
+    ensures { result ≡ parsed (piece length to epoch) rest.now }
 {
     let (part, rest) = byte_of(rest)?;
     let Some(part) = Part::from_byte(part) else {
@@ -62,8 +62,8 @@ fn piece_of(length: u32, to: HostName, epoch: u64, rest: &[u8]) -> Judged<Outlin
     Ok(Ok(Outline { to, epoch, shape }))
 }
 
-fn refusal_of(to: HostName, epoch: u64, rest: &[u8]) -> Judged<Outline>
-    ensures { result ≡ judged (refusal to epoch) rest.now }
+fn refusal_of(to: HostName, epoch: u64, rest: &[u8]) -> Parsed<Outline>
+    ensures { result ≡ parsed (refusal to epoch) rest.now }
 {
     let (reason, rest) = byte_of(rest)?;
     let Some(reason) = Reason::from_byte(reason) else {
@@ -74,8 +74,8 @@ fn refusal_of(to: HostName, epoch: u64, rest: &[u8]) -> Judged<Outline>
     Ok(Ok(Outline { to, epoch, shape }))
 }
 
-fn body_of(kind: Kind, length: u32, to: HostName, epoch: u64, rest: &[u8]) -> Judged<Outline>
-    ensures { result ≡ judged (body_of kind length to epoch) rest.now }
+fn body_of(kind: Kind, length: u32, to: HostName, epoch: u64, rest: &[u8]) -> Parsed<Outline>
+    ensures { result ≡ parsed (body_of kind length to epoch) rest.now }
 {
     let shape = match kind {
         Kind::Offer => return offer_of(to, epoch, rest),
@@ -89,19 +89,19 @@ fn body_of(kind: Kind, length: u32, to: HostName, epoch: u64, rest: &[u8]) -> Ju
     Ok(Ok(Outline { to, epoch, shape }))
 }
 
-fn receiver_of(kind: Kind, length: u32, rest: &[u8]) -> Judged<Outline>
-    ensures { result ≡ judged (receiver kind length) rest.now }
+fn receiver_of(kind: Kind, length: u32, rest: &[u8]) -> Parsed<Outline>
+    ensures { result ≡ parsed (receiver kind length) rest.now }
 {
     let (to, rest) = byte_of(rest)?;
-    let Some(to) = HostName::from_byte(to) else {
+    let Some(to) = host_from_byte(to) else {
         return refused(Why::Value, RECEIVER_PLACE);
     };
     let (epoch, rest) = long_of(rest)?;
     body_of(kind, length, to, epoch, rest)
 }
 
-fn kind_of(length: u32, rest: &[u8]) -> Judged<Outline>
-    ensures { result ≡ judged (after_length length) rest.now }
+fn kind_of(length: u32, rest: &[u8]) -> Parsed<Outline>
+    ensures { result ≡ parsed (after_length length) rest.now }
 {
     if length < BARE_LENGTH || length > LARGEST_LENGTH {
         return refused(Why::Length, LENGTH_PLACE);
@@ -116,8 +116,8 @@ fn kind_of(length: u32, rest: &[u8]) -> Judged<Outline>
     receiver_of(kind, length, rest)
 }
 
-fn version_of(rest: &[u8]) -> Judged<Outline>
-    ensures { result ≡ judged after_magic rest.now }
+fn version_of(rest: &[u8]) -> Parsed<Outline>
+    ensures { result ≡ parsed after_magic rest.now }
 {
     let (version, rest) = byte_of(rest)?;
     if version != VERSION {
@@ -136,8 +136,8 @@ impl Grammar for Messages {
 
     ghost within = { λ _. messages_within };
 
-    #[tactic(auto, using(crate::proofs::Marked::judged_message))]
-    fn judge(&self, bytes: &[u8]) -> Result<Result<Outline, Malformed>, Missing> {
+    #[tactic(auto, using(crate::proofs::MagicRead::parsed_message))]
+    fn parse(&self, bytes: &[u8]) -> Result<Result<Outline, Malformed>, Missing> {
         match behind_magic(bytes, MAGIC)? {
             Ok(rest) => version_of(rest),
             Err(fault) => Ok(Err(fault)),

@@ -1,15 +1,15 @@
 //! Laws of migration messages and of streams of them. Their calls do nothing.
 ghost use Rattle.std.specs.Prelude.{◌≡◌, ◌<◌, ◌^◌, ◌++◌, ◌∷◌, [], List, ℕ, Option};
-ghost use Rattle.vt_base.specs.declared.words.Malformed.{Malformed};
+ghost use Rattle.vt_base.specs.declared.types.Malformed.{Malformed};
 ghost use Rattle.move_codec.specs.declared.message.Message.{Message};
-ghost use Rattle.move_codec.specs.Spelling.{IsInRange, Moves};
+ghost use Rattle.move_codec.specs.Encoding.{IsInRange, Moves};
 ghost use Rattle.move_codec.specs.Refusals.{Refuses};
 ghost use Rattle.move_codec.specs.Streams.{Carries, Stops};
 
 use crate::message::{Body, Message};
 
 /// Bytes begin with one message, or with one refusal, whatever follows. So what was written is read again.
-pub fn messages_are_told_apart()
+pub fn messages_are_prefix_free()
     ensures messages { (m n : Message) (a b x y : List ℕ) → Moves m a → Moves n b
         → a ++ x ≡ b ++ y → (m ≡ n) × (a ≡ b) }
     ensures refusals { (f g : Malformed) (a b x y : List ℕ) → Refuses f a → Refuses g b
@@ -22,8 +22,8 @@ pub fn messages_are_told_apart()
 /// cause, or in which nothing is decided.
 pub fn streams_are_read_once()
     // What was read so far grows by each message that becomes whole.
-    ensures grows { (sent : List Message) (stream rest piece front back : List ℕ) (m : Message) → Carries sent stream rest
-        → rest ++ piece ≡ front ++ back → Moves m front → Carries (sent ++ m ∷ []) (stream ++ piece) back }
+    ensures grows { (sent : List Message) (stream rest piece prefix back : List ℕ) (m : Message) → Carries sent stream rest
+        → rest ++ piece ≡ prefix ++ back → Moves m prefix → Carries (sent ++ m ∷ []) (stream ++ piece) back }
     ensures once { (sent others : List Message) (stream rest left : List ℕ) (stop end : Option Malformed)
         → Carries sent stream rest → Stops stop rest → Carries others stream left → Stops end left
         → (sent ≡ others) × (rest ≡ left) × (stop ≡ end) }

@@ -1,9 +1,9 @@
 // Messages as values.
 ghost use Rattle.std.specs.Prelude.{◌≡◌};
-ghost use Rattle.move_codec.specs.Spelling.{kind_of};
+ghost use Rattle.move_codec.specs.Encoding.{kind_of};
 
-use crate::names::{HostName, Kind, Part, Reason};
-use vt_base::Bytes;
+use crate::names::{Kind, Part, Reason};
+use vt_base::{Bytes, HostName};
 
 /// What a message says.
 #[derive(Debug, Drop)]
@@ -29,7 +29,7 @@ pub enum Body {
     Commit,
     /// The sender takes its offer back.
     Abort,
-    /// An offer or a piece is refused. The value tells more: the first bad part of the totals, the place in the record,
+    /// An offer or a piece is refused. The value says more: the first bad part of the totals, the place in the record,
     /// the emulator's result, the place in its reply, and 0 otherwise.
     Refuse {
         reason: Reason,

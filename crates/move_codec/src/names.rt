@@ -3,6 +3,7 @@ ghost use Rattle.std.specs.Prelude.{◌≡◌, ℕ};
 ghost use Rattle.move_codec.specs.Names.{named, host_byte, hosts, part_byte, parts, reason_byte, reasons, kind_byte, kinds, fits};
 
 use crate::format::{BARE_LENGTH, OFFER_LENGTH, PIECE_LENGTH, SHORT_LENGTH};
+use vt_base::HostName;
 
 /// A name that stands in a message as one byte.
 pub(crate) trait Named: Copy {
@@ -19,13 +20,6 @@ fn name_of<T: Named>(names: &[T], byte: u8) -> Option<T>
     names.iter().copied().find(|name| name.to_byte() == byte)
 }
 
-/// One of the two hosts.
-#[derive(Clone, Copy, Debug, PartialEq, Eq)]
-pub enum HostName {
-    A = 0,
-    B = 1,
-}
-
 impl Named for HostName {
     ghost byte = { host_byte };
 
@@ -34,12 +28,11 @@ impl Named for HostName {
     }
 }
 
-impl HostName {
-    pub(crate) fn from_byte(byte: u8) -> Option<HostName>
-        ensures found { result ≡ named host_byte hosts byte }
-    {
-        name_of(&[HostName::A, HostName::B], byte)
-    }
+/// The host that has this byte.
+pub(crate) fn host_from_byte(byte: u8) -> Option<HostName>
+    ensures found { result ≡ named host_byte hosts byte }
+{
+    name_of(&[HostName::A, HostName::B], byte)
 }
 
 /// A part of what is moved, in the order in which the parts go.

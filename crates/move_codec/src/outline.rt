@@ -1,11 +1,11 @@
-// Messages as their fixed fields tell them.
+// Messages as their fixed fields give them.
 ghost use Rattle.std.specs.Prelude.{◌≡◌, IfOk};
 ghost use Rattle.move_codec.specs.Outlines.{message_of};
 
 use crate::message::{Body, Message};
-use crate::names::{HostName, Part, Reason};
+use crate::names::{Part, Reason};
 use std::alloc::{AllocError, Global};
-use vt_base::Bytes;
+use vt_base::{Bytes, HostName};
 
 /// What a message says, but for the bytes of a piece.
 #[derive(Clone, Copy)]
@@ -19,7 +19,7 @@ pub(crate) enum Shape {
     Refuse { reason: Reason, value: u32 },
 }
 
-/// A message, but for the bytes of a piece: what a judge can tell with no memory of its own.
+/// A message, but for the bytes of a piece: what a parser can know with no memory of its own.
 #[derive(Clone, Copy)]
 pub(crate) struct Outline {
     pub to: HostName,

@@ -2,7 +2,7 @@
 ghost use Rattle.std.specs.Prelude.{◌≡◌, ◌≤◌, ◌++◌, length, [], take, drop, false, IfOk, OnErr, Err};
 ghost use Rattle.vt_base.specs.Layout.{IsOpen};
 ghost use Rattle.move_codec.specs.Messages.{messages};
-ghost use Rattle.move_codec.specs.Spelling.{Moves};
+ghost use Rattle.move_codec.specs.Encoding.{Moves};
 ghost use Rattle.move_codec.specs.Refusals.{Refuses, IsUndecided};
 
 use crate::format::{BYTES_PLACE, LARGEST_MESSAGE};
@@ -10,7 +10,7 @@ use crate::grammar::Messages;
 use crate::message::Message;
 use std::alloc::{AllocError, Global};
 use std::marker::Model;
-use vt_base::{Held, Malformed};
+use vt_base::{ByteBuf, Malformed};
 
 /// What a piece of the stream made.
 #[derive(Debug, Drop)]
@@ -28,16 +28,16 @@ pub enum FedMessage {
 /// Reads migration messages from pieces of any size. Its memory, that of the longest message, is taken by `new`.
 #[derive(Debug, Drop)]
 pub struct Reader {
-    begun: Box<Held<LARGEST_MESSAGE>>,
+    begun: Box<ByteBuf<LARGEST_MESSAGE>>,
     failed: bool,
 }
 
 impl Model for Reader {
-    ghost use Rattle.move_codec.specs.Reading.{Reading};
+    ghost use Rattle.move_codec.specs.Reading.{MessageReaderState};
     ghost use Rattle.move_codec.specs.Messages.{messages};
     ghost use Rattle.vt_base.specs.Layout.{IsOpen};
 
-    ghost Value = { Reading };
+    ghost Value = { MessageReaderState };
 
     ghost view = { λ r. record { begun = r.begun.value; failed = r.failed } };
 
@@ -46,7 +46,7 @@ impl Model for Reader {
 
 impl Reader {
     ghost use Rattle.move_codec.specs.Answers.{IfWhole, IfBad, OnMore, OnFailed, is_failed, after};
-    ghost use Rattle.move_codec.specs.Told.{Told, Fills};
+    ghost use Rattle.move_codec.specs.Ends.{EndsMessage, Fills};
 
     /// A reader before its first byte.
     #[tactic(auto, using(crate::proofs::Begins::open_nil))]
@@ -54,7 +54,7 @@ impl Reader {
         ensures fresh { IfOk result (λ r. r ≡ record { begun = []; failed = false }) }
     {
         Ok(Reader {
-            begun: Box::new(alloc, Held::new())?,
+            begun: Box::new(alloc, ByteBuf::new())?,
             failed: false,
         })
     }
@@ -87,7 +87,7 @@ impl Reader {
         ensures whole { IfOk result (λ fed.
             IfWhole fed.1 (λ m. Fills m (self.old.begun ++ take fed.0 piece.now))) }
         ensures bad { IfOk result (λ fed.
-            IfBad fed.1 (λ fault. Told (Err fault) (self.old.begun ++ take fed.0 piece.now))) }
+            IfBad fed.1 (λ fault. EndsMessage (Err fault) (self.old.begun ++ take fed.0 piece.now))) }
         ensures more { IfOk result (λ fed.
             OnMore fed.1 ((fed.0 ≡ length piece.now) × IsOpen messages (self.old.begun ++ piece.now))) }
         ensures failed { IfOk result (λ fed. is_failed fed.1 ≡ self.old.failed) }

@@ -1,7 +1,7 @@
 // Messages written.
 ghost use Rattle.std.specs.Prelude.{◌≡◌, ◌+◌, ◌-◌, ◌^◌, ◌≤◌, ◌<◌, ◌++◌, [], length, OnOk, OnErr};
 ghost use Rattle.vt_base.specs.Numbers.{number};
-ghost use Rattle.move_codec.specs.Spelling.{HasPiece, IsInRange, Moves, fields_of, kind_of, before_body, spelling};
+ghost use Rattle.move_codec.specs.Encoding.{HasPiece, IsInRange, Moves, fields_of, kind_of, before_body, encode_message};
 
 use crate::format::{BARE_LENGTH, MAGIC, VERSION};
 use crate::laws;
@@ -65,13 +65,13 @@ fn put_header(text: &mut Vec<u8>, m: &Message, length: u32) -> Result<(), AllocE
     text.extend_from_slice(&m.epoch.to_be_bytes())
 }
 
-/// Appends the one spelling of a message, whose piece has 1 to 4096 bytes. The bytes are put together in memory of their own,
-/// so that where memory is wanting nothing is appended.
+/// Appends the one encoding of a message, whose piece has 1 to 4096 bytes. The bytes are put together in memory of
+/// their own, so that where memory is wanting nothing is appended.
 #[tactic(auto, using(crate::proofs::Writes::fields_room))]
 pub fn write_message(alloc: Global, m: &Message, into: &mut Vec<u8>) -> Result<(), AllocError>
     requires piece { HasPiece m.now.body }
-    ensures written { OnOk result (into.new.items ≡ into.old.items ++ spelling m.now) }
-    ensures told { Moves m.now (spelling m.now) }
+    ensures written { OnOk result (into.new.items ≡ into.old.items ++ encode_message m.now) }
+    ensures exact { Moves m.now (encode_message m.now) }
     ensures err { OnErr result (into.new.items ≡ into.old.items) }
 {
     laws::messages_are_in_range(m);

@@ -3,12 +3,12 @@ use Rattle.std.proofs.Common.{◌≡◌, ℕ, ◌+◌, Bool, false, List, [], �
 use Rattle.std.specs.Prelude.{Result, nat_lt, ◌==◌}
 use Rattle.std.specs.declared.alloc.AllocError.{AllocError}
 use Rattle.std.proofs.lemmas.Bool.{cond_both}
-use Rattle.vt_base.specs.declared.words.Malformed.{Malformed}
-use Rattle.vt_base.specs.declared.words.Kind.{Kind}
-use Rattle.vt_base.specs.declared.words.Kind.TheVariants as kind
-use Rattle.crb_port.specs.Known.{Known}
+use Rattle.vt_base.specs.declared.types.Malformed.{Malformed}
+use Rattle.vt_base.specs.declared.types.Kind.{Kind}
+use Rattle.vt_base.specs.declared.types.Kind.TheVariants as kind
+use Rattle.crb_port.specs.Views.{PortView}
 use Rattle.crb_machine.specs.Values.{DeviceValues}
-use Rattle.state_blobs.specs.declared.words.Piece.{Piece}
+use Rattle.state_blobs.specs.declared.types.Piece.{Piece}
 use Rattle.ctrl_client.specs.declared.fault.ClientFault.{ClientFault}
 use Rattle.ctrl_client.specs.declared.fault.ClientFault.TheVariants.{Link as LinkFault, Result as BadResult, Reply as BadReply}
 use Rattle.ctrl_client.specs.Exchange.{CountsLink}
@@ -47,17 +47,17 @@ fetched_same : (into : List ℕ) (r : Result Piece ClientFault) → ends_by_link
 fetched_same into (Ok p) = refl
 fetched_same into (Err f) = refl
 
-fetches_counted : {Plan : Type 0} (kind : Kind) (offset : ℕ) (w v : WiresView Plan) (answer : Result Fetched ClientFault) → FetchesPiece kind offset w v answer → CountsIf (ends_by_link answer) w.faults v.faults
+fetches_counted : {Schedule : Type 0} (kind : Kind) (offset : ℕ) (w v : WiresView Schedule) (answer : Result Fetched ClientFault) → FetchesPiece kind offset w v answer → CountsIf (ends_by_link answer) w.faults v.faults
 fetches_counted kind offset w v answer f =
     subst (λ (b : Bool). CountsIf b w.faults v.faults) (sym (ap ends_by_link f.answer_is ∙ fetched_same f.into f.piece)) (counted_by w.faults v.faults f.piece f.gets.counts)
 
-switched_counted : {Plan : Type 0} (given answer : Result (Unit {0}) ClientFault) (w between v : WiresView Plan) → CountsIf (ends_by_link given) w.faults between.faults → SwitchesOn given between v answer → CountsIf (ends_by_link answer) w.faults v.faults
+switched_counted : {Schedule : Type 0} (given answer : Result (Unit {0}) ClientFault) (w between v : WiresView Schedule) → CountsIf (ends_by_link given) w.faults between.faults → SwitchesOn given between v answer → CountsIf (ends_by_link answer) w.faults v.faults
 switched_counted (Ok done) answer w between v counts on = after_none w.faults between.faults v.faults (ends_by_link answer) counts (counted_by between.faults v.faults answer on.counts)
-switched_counted {Plan} (Err f) answer w between v counts on =
-    subst (λ (u : WiresView Plan). CountsIf (ends_by_link answer) w.faults u.faults) (sym on.0)
+switched_counted {Schedule} (Err f) answer w between v counts on =
+    subst (λ (u : WiresView Schedule). CountsIf (ends_by_link answer) w.faults u.faults) (sym on.0)
     (subst (λ (r : Result (Unit {0}) ClientFault). CountsIf (ends_by_link r) w.faults between.faults) (sym on.1) counts)
 
-last_counted : {Plan : Type 0} (bytes : List ℕ) (w v : WiresView Plan) (answer : Result (Unit {0}) ClientFault) → GivesLastPiece bytes w v answer → CountsIf (ends_by_link answer) w.faults v.faults
+last_counted : {Schedule : Type 0} (bytes : List ℕ) (w v : WiresView Schedule) (answer : Result (Unit {0}) ClientFault) → GivesLastPiece bytes w v answer → CountsIf (ends_by_link answer) w.faults v.faults
 last_counted bytes w v answer g = switched_counted g.given answer w g.between v (counted_by w.faults g.between.faults g.given g.gives.counts) g.switches
 
 -- ---- the lengths of blobs
@@ -66,7 +66,7 @@ total_same : (r : Result Fetched ClientFault) → ends_by_link (total_in r) ≡ 
 total_same (Ok p) = refl
 total_same (Err f) = refl
 
-total_counted : {Plan : Type 0} (kind : Kind) (w v : WiresView Plan) (answer : Result ℕ ClientFault) → GetsTotal kind w v answer → CountsIf (ends_by_link answer) w.faults v.faults
+total_counted : {Schedule : Type 0} (kind : Kind) (w v : WiresView Schedule) (answer : Result ℕ ClientFault) → GetsTotal kind w v answer → CountsIf (ends_by_link answer) w.faults v.faults
 total_counted kind w v answer g =
     subst (λ (b : Bool). CountsIf b w.faults v.faults) (sym (ap ends_by_link g.answer_is ∙ total_same g.piece)) (fetches_counted kind 0 w v g.piece g.fetches)
 
@@ -74,19 +74,19 @@ before_same : (total : ℕ) (r : Result (List ℕ) ClientFault) → ends_by_link
 before_same total (Ok totals) = refl
 before_same total (Err f) = refl
 
-then_counted : {Plan : Type 0} (first : Result ℕ ClientFault) (GetsOthers : Result (List ℕ) ClientFault → Type 0) (w between v : WiresView Plan) (answer : Result (List ℕ) ClientFault)
+then_counted : {Schedule : Type 0} (first : Result ℕ ClientFault) (GetsOthers : Result (List ℕ) ClientFault → Type 0) (w between v : WiresView Schedule) (answer : Result (List ℕ) ClientFault)
     → ((others : Result (List ℕ) ClientFault) → GetsOthers others → CountsIf (ends_by_link others) between.faults v.faults)
     → CountsIf (ends_by_link first) w.faults between.faults → ThenGets first GetsOthers between v answer → CountsIf (ends_by_link answer) w.faults v.faults
-then_counted {Plan} (Err f) GetsOthers w between v answer others counts gets =
-    subst (λ (u : WiresView Plan). CountsIf (ends_by_link answer) w.faults u.faults) (sym gets.0)
+then_counted {Schedule} (Err f) GetsOthers w between v answer others counts gets =
+    subst (λ (u : WiresView Schedule). CountsIf (ends_by_link answer) w.faults u.faults) (sym gets.0)
     (subst (λ (r : Result (List ℕ) ClientFault). CountsIf (ends_by_link r) w.faults between.faults) (sym gets.1) counts)
 then_counted (Ok total) GetsOthers w between v answer others counts gets =
     after_none w.faults between.faults v.faults (ends_by_link answer) counts
     (subst (λ (b : Bool). CountsIf b between.faults v.faults) (sym (ap ends_by_link gets.2 ∙ before_same total gets.0)) (others gets.0 gets.1))
 
-totals_counted : {Plan : Type 0} (kinds : List Kind) (w v : WiresView Plan) (answer : Result (List ℕ) ClientFault) → GetsTotals kinds w v answer → CountsIf (ends_by_link answer) w.faults v.faults
-totals_counted {Plan} [] w v answer gets =
-    subst (λ (r : Result (List ℕ) ClientFault). CountsIf (ends_by_link r) w.faults v.faults) (sym gets.1) (ap (λ (u : WiresView Plan). u.faults) gets.0)
+totals_counted : {Schedule : Type 0} (kinds : List Kind) (w v : WiresView Schedule) (answer : Result (List ℕ) ClientFault) → GetsTotals kinds w v answer → CountsIf (ends_by_link answer) w.faults v.faults
+totals_counted {Schedule} [] w v answer gets =
+    subst (λ (r : Result (List ℕ) ClientFault). CountsIf (ends_by_link r) w.faults v.faults) (sym gets.1) (ap (λ (u : WiresView Schedule). u.faults) gets.0)
 totals_counted (kind ∷ kinds) w v answer gets =
     then_counted gets.1 (GetsTotals kinds gets.0 v) w gets.0 v answer (λ others. totals_counted kinds gets.0 v others) (total_counted kind w gets.0 gets.1 gets.2) gets.3
 
@@ -103,22 +103,22 @@ CountsBy (Loads bytes next) = (r : Result DeviceValues Malformed) → delivered_
 record Shows {P : Type 0} (row : Row P) : Type 0 where
   shown : CountsBy row
 
-ended : {P : Type 0} (known : P → Known) (after : After P) (answer : Delivered) (new : HostModel P) (x : Bool) → delivered_by_link after.answer ≡ x → EndsIn known after answer new → delivered_by_link answer ≡ x
-ended known after answer new x shown ends = ap delivered_by_link ends.answer_is ∙ shown
+ended : {P : Type 0} (port_view : P → PortView) (after : After P) (answer : Delivered) (new : HostModel P) (x : Bool) → delivered_by_link after.answer ≡ x → EndsIn port_view after answer new → delivered_by_link answer ≡ x
+ended port_view after answer new x shown ends = ap delivered_by_link ends.answer_is ∙ shown
 
-row_counted : {P Plan : Type 0} (known : P → Known) (row : Row P) (w v : WiresView Plan) (answer : Delivered) (new : HostModel P) → CountsBy row → Follows known row w v answer new → CountsIf (delivered_by_link answer) w.faults v.faults
-row_counted {P} {Plan} known (Ends after) w v answer new shown f =
-    subst (λ (b : Bool). CountsIf b w.faults v.faults) (sym (ended known after answer new false shown f.1)) (ap (λ (u : WiresView Plan). u.faults) f.0)
-row_counted known (Stops next) w v answer new shown f =
-    subst (λ (b : Bool). CountsIf b w.faults v.faults) (sym (ended known (next f.0) answer new (ends_by_link f.0) (shown f.0) f.2)) (counted_by w.faults v.faults f.0 f.1.counts)
-row_counted known (Fetches kind offset next) w v answer new shown f =
-    subst (λ (b : Bool). CountsIf b w.faults v.faults) (sym (ended known (next f.0) answer new (ends_by_link f.0) (shown f.0) f.2)) (fetches_counted kind offset w v f.0 f.1)
-row_counted known (Gives kind bytes next) w v answer new shown f =
-    subst (λ (b : Bool). CountsIf b w.faults v.faults) (sym (ended known (next f.0) answer new (ends_by_link f.0) (shown f.0) f.2)) (counted_by w.faults v.faults f.0 f.1.counts)
-row_counted known (GivesLast bytes next) w v answer new shown f =
-    subst (λ (b : Bool). CountsIf b w.faults v.faults) (sym (ended known (next f.0) answer new (ends_by_link f.0) (shown f.0) f.2)) (last_counted bytes w v f.0 f.1)
-row_counted {P} {Plan} known (Loads bytes next) w v answer new shown f =
-    subst (λ (b : Bool). CountsIf b w.faults v.faults) (sym (ended known (next f.0) answer new false (shown f.0) f.3)) (ap (λ (u : WiresView Plan). u.faults) f.2)
+row_counted : {P Schedule : Type 0} (port_view : P → PortView) (row : Row P) (w v : WiresView Schedule) (answer : Delivered) (new : HostModel P) → CountsBy row → Follows port_view row w v answer new → CountsIf (delivered_by_link answer) w.faults v.faults
+row_counted {P} {Schedule} port_view (Ends after) w v answer new shown f =
+    subst (λ (b : Bool). CountsIf b w.faults v.faults) (sym (ended port_view after answer new false shown f.1)) (ap (λ (u : WiresView Schedule). u.faults) f.0)
+row_counted port_view (Stops next) w v answer new shown f =
+    subst (λ (b : Bool). CountsIf b w.faults v.faults) (sym (ended port_view (next f.0) answer new (ends_by_link f.0) (shown f.0) f.2)) (counted_by w.faults v.faults f.0 f.1.counts)
+row_counted port_view (Fetches kind offset next) w v answer new shown f =
+    subst (λ (b : Bool). CountsIf b w.faults v.faults) (sym (ended port_view (next f.0) answer new (ends_by_link f.0) (shown f.0) f.2)) (fetches_counted kind offset w v f.0 f.1)
+row_counted port_view (Gives kind bytes next) w v answer new shown f =
+    subst (λ (b : Bool). CountsIf b w.faults v.faults) (sym (ended port_view (next f.0) answer new (ends_by_link f.0) (shown f.0) f.2)) (counted_by w.faults v.faults f.0 f.1.counts)
+row_counted port_view (GivesLast bytes next) w v answer new shown f =
+    subst (λ (b : Bool). CountsIf b w.faults v.faults) (sym (ended port_view (next f.0) answer new (ends_by_link f.0) (shown f.0) f.2)) (last_counted bytes w v f.0 f.1)
+row_counted {P} {Schedule} port_view (Loads bytes next) w v answer new shown f =
+    subst (λ (b : Bool). CountsIf b w.faults v.faults) (sym (ended port_view (next f.0) answer new false (shown f.0) f.3)) (ap (λ (u : WiresView Schedule). u.faults) f.2)
 
 -- ---- the table
 
@@ -241,20 +241,20 @@ module _ {P : Type 0} where
 -- ---- calls
 
 -- a delivery
-pub delivery_counted : {P Plan : Type 0} (known : P → Known) (h : HostModel P) (m : Message) (w v : WiresView Plan) (result : Result Delivered AllocError) (new : HostModel P)
-    → IfOk result (λ answer. Follows known (delivered h m) w v answer new) → IfOk result (λ answer. CountsIf (delivered_by_link answer) w.faults v.faults)
-delivery_counted known h m w v (Ok answer) new f = row_counted known (delivered h m) w v answer new (delivered_shows h m).shown f
-delivery_counted known h m w v (Err failed) new f = tt
+pub delivery_counted : {P Schedule : Type 0} (port_view : P → PortView) (h : HostModel P) (m : Message) (w v : WiresView Schedule) (result : Result Delivered AllocError) (new : HostModel P)
+    → IfOk result (λ answer. Follows port_view (delivered h m) w v answer new) → IfOk result (λ answer. CountsIf (delivered_by_link answer) w.faults v.faults)
+delivery_counted port_view h m w v (Ok answer) new f = row_counted port_view (delivered h m) w v answer new (delivered_shows h m).shown f
+delivery_counted port_view h m w v (Err failed) new f = tt
 
 abbrev blobs : List Kind
 blobs = kind.Permanent ∷ kind.Volatile ∷ kind.Saved ∷ []
 
 -- an offer
-pub offer_counted : {P Plan : Type 0} (known : P → Known) (h : HostModel P) (w : WiresView Plan) (answer : Result Message OfferFault) (v : WiresView Plan) (new : HostModel P)
-    → Offers known h w answer v new → CountsIf (offered_by_link answer) w.faults v.faults
-offer_counted known h w (Ok m) v new o = totals_counted blobs w v (Ok o.1.offers.1.totals) o.1.offers.1.asked
-offer_counted {P} {Plan} known h w (Err fault.Stopped) v new o = ap (λ (u : WiresView Plan). u.faults) o.1
-offer_counted {P} {Plan} known h w (Err fault.Device) v new o = ap (λ (u : WiresView Plan). u.faults) o.1.offers.1
-offer_counted {P} {Plan} known h w (Err (fault.NotYet number)) v new o = ap (λ (u : WiresView Plan). u.faults) o.1
-offer_counted {P} {Plan} known h w (Err fault.EpochEnd) v new o = ap (λ (u : WiresView Plan). u.faults) o.1.offers.2
-offer_counted known h w (Err (fault.Wires f)) v new o = totals_counted blobs w v (Err f) o.1.offers.2
+pub offer_counted : {P Schedule : Type 0} (port_view : P → PortView) (h : HostModel P) (w : WiresView Schedule) (answer : Result Message OfferFault) (v : WiresView Schedule) (new : HostModel P)
+    → Offers port_view h w answer v new → CountsIf (offered_by_link answer) w.faults v.faults
+offer_counted port_view h w (Ok m) v new o = totals_counted blobs w v (Ok o.1.offers.1.totals) o.1.offers.1.asked
+offer_counted {P} {Schedule} port_view h w (Err fault.Stopped) v new o = ap (λ (u : WiresView Schedule). u.faults) o.1
+offer_counted {P} {Schedule} port_view h w (Err fault.Device) v new o = ap (λ (u : WiresView Schedule). u.faults) o.1.offers.1
+offer_counted {P} {Schedule} port_view h w (Err (fault.NotYet number)) v new o = ap (λ (u : WiresView Schedule). u.faults) o.1
+offer_counted {P} {Schedule} port_view h w (Err fault.EpochEnd) v new o = ap (λ (u : WiresView Schedule). u.faults) o.1.offers.2
+offer_counted port_view h w (Err (fault.Wires f)) v new o = totals_counted blobs w v (Err f) o.1.offers.2

@@ -2,7 +2,7 @@
 use Rattle.std.proofs.Common.{◌≡◌, true, false, refl, Ok, Err}
 use Rattle.std.specs.Prelude.{Result}
 use Rattle.std.specs.Result.{is_err}
-use Rattle.crb_port.specs.Known.{Known}
+use Rattle.crb_port.specs.Views.{PortView}
 use Rattle.crb_regs.specs.Registers.{is_lost}
 use Rattle.crb_regs.specs.declared.phase.Phase.{Phase}
 use Rattle.crb_regs.specs.declared.phase.Phase.TheVariants as phase
@@ -34,20 +34,20 @@ runs_at (Released e) is = absurd cc
 runs_at (Filling e totals part place) is = absurd cc
 runs_at (Prepared e) is = absurd cc
 
-pub ends_refused : {P : Type 0} (known : P → Known) (answer : Result Message OfferFault) (h new : HostModel P) → is_err answer ≡ true → Resumes known h new → EndsOffer known answer h new
-ends_refused known (Ok m) h new wrong goes = absurd cc
-ends_refused known (Err f) h new is goes = goes
+pub ends_refused : {P : Type 0} (port_view : P → PortView) (answer : Result Message OfferFault) (h new : HostModel P) → is_err answer ≡ true → Resumes port_view h new → EndsOffer port_view answer h new
+ends_refused port_view (Ok m) h new wrong goes = absurd cc
+ends_refused port_view (Err f) h new is goes = goes
 
-pub ends_made : {P : Type 0} (known : P → Known) (answer : Result Message OfferFault) (h : HostModel P) → is_err answer ≡ false → EndsOffer known answer h h
-ends_made known (Ok m) h is = refl
-ends_made known (Err f) h wrong = absurd cc
+pub ends_made : {P : Type 0} (port_view : P → PortView) (answer : Result Message OfferFault) (h : HostModel P) → is_err answer ≡ false → EndsOffer port_view answer h h
+ends_made port_view (Ok m) h is = refl
+ends_made port_view (Err f) h wrong = absurd cc
 
 -- a running host whose device was stopped
-pub offers_from : {P Plan : Type 0} (known : P → Known) (h : HostModel P) (w v : WiresView Plan) (answer : Result Message OfferFault) (new held : HostModel P) (device : DeviceModel P)
-    → h.stage ≡ Running → DeviceStops known h.device (Ok tt) device → OffersHeld (record h { device = device }) w answer v held → EndsOffer known answer held new → Offers known h w answer v new
-offers_from known h w v (Ok m) new held device runs stops offers ends = (runs, record { device = device; stops = stops; held = held; offers = offers; ends = ends })
-offers_from known h w v (Err Stopped) new held device runs stops offers ends = absurd offers
-offers_from known h w v (Err Device) new held device runs stops offers ends = (runs, record { device = device; stops = stops; held = held; offers = offers; ends = ends })
-offers_from known h w v (Err (NotYet number)) new held device runs stops offers ends = absurd offers
-offers_from known h w v (Err EpochEnd) new held device runs stops offers ends = (runs, record { device = device; stops = stops; held = held; offers = offers; ends = ends })
-offers_from known h w v (Err (Wires f)) new held device runs stops offers ends = (runs, record { device = device; stops = stops; held = held; offers = offers; ends = ends })
+pub offers_from : {P Schedule : Type 0} (port_view : P → PortView) (h : HostModel P) (w v : WiresView Schedule) (answer : Result Message OfferFault) (new held : HostModel P) (device : DeviceModel P)
+    → h.stage ≡ Running → DeviceStops port_view h.device (Ok tt) device → OffersHeld (record h { device = device }) w answer v held → EndsOffer port_view answer held new → Offers port_view h w answer v new
+offers_from port_view h w v (Ok m) new held device runs stops offers ends = (runs, record { device = device; stops = stops; held = held; offers = offers; ends = ends })
+offers_from port_view h w v (Err Stopped) new held device runs stops offers ends = absurd offers
+offers_from port_view h w v (Err Device) new held device runs stops offers ends = (runs, record { device = device; stops = stops; held = held; offers = offers; ends = ends })
+offers_from port_view h w v (Err (NotYet number)) new held device runs stops offers ends = absurd offers
+offers_from port_view h w v (Err EpochEnd) new held device runs stops offers ends = (runs, record { device = device; stops = stops; held = held; offers = offers; ends = ends })
+offers_from port_view h w v (Err (Wires f)) new held device runs stops offers ends = (runs, record { device = device; stops = stops; held = held; offers = offers; ends = ends })

@@ -2,8 +2,8 @@
 use Rattle.std.proofs.Common.{◌≡◌, ℕ, ◌+◌, ◌<◌, ◌≤◌, Bool, true, false, List, [], ◌++◌, length, Option, Some, None, Ok, Err, refl, sym, ap, subst, ◌∙◌, arith, length-append}
 use Rattle.std.specs.Prelude.{Result, nat_lt, ◌==◌}
 use Rattle.std.proofs.lemmas.Bool.{cond_both, eqb-true, ltb-true, and_parts}
-use Rattle.vt_base.specs.declared.words.Malformed.{Malformed}
-use Rattle.crb_port.specs.Known.{Known}
+use Rattle.vt_base.specs.declared.types.Malformed.{Malformed}
+use Rattle.crb_port.specs.Views.{PortView}
 use Rattle.crb_regs.specs.Registers.{is_executing}
 use Rattle.crb_machine.specs.Values.{DeviceValues, held_values}
 use Rattle.crb_machine.specs.Over.{GoesOnIf}
@@ -26,7 +26,7 @@ use Rattle.move_core.specs.Requests.{WiresView}
 use Rattle.move_core.specs.Table.{After, Row, ignored, emptied, takes_offer, begins, on_offer, passes_on, gives, on_need, wants, goes_to, took, loads, takes_piece, on_piece, on_prepared, on_commit, on_abort, on_refuse, on_message, delivered}
 use Rattle.move_core.specs.Table.Row.{Ends, Stops, Fetches, Gives, GivesLast, Loads}
 use Rattle.move_core.specs.Calls.{SettlesBy, EndsIn, Follows}
-use Rattle.move_codec.specs.Spelling.{IsInRange}
+use Rattle.move_codec.specs.Encoding.{IsInRange}
 use Rattle.move_core.proofs.Totals.{none_bad}
 
 -- a host whose guest is about to run
@@ -56,30 +56,30 @@ record LeadsWell {P : Type 0} (row : Row P) : Type 0 where
 
 -- ---- what was made is in its place
 
-goes_on_runs : {P : Type 0} (executes : Bool) (known : P → Known) (d e : DeviceModel P) → GoesOnIf executes known d e → e.held ≡ false
-goes_on_runs true known d e went = ap (λ (x : DeviceModel _). x.held) went.0
-goes_on_runs false known d e went = ap (λ (x : DeviceModel _). x.held) went
+goes_on_runs : {P : Type 0} (executes : Bool) (port_view : P → PortView) (d e : DeviceModel P) → GoesOnIf executes port_view d e → e.held ≡ false
+goes_on_runs true port_view d e went = ap (λ (x : DeviceModel _). x.held) went.0
+goes_on_runs false port_view d e went = ap (λ (x : DeviceModel _). x.held) went
 
-settled_placed : {P : Type 0} (goes : Bool) (known : P → Known) (h new : HostModel P) → EndsAs goes h → SettlesBy goes known h new → MatchesSide new
-settled_placed false known h new well is = subst MatchesSide (sym is) well
-settled_placed true known h new well goes = subst MatchesSide (sym goes.rest) (record {
-  held = goes_on_runs (is_executing h.device.regs.phase) known h.device new.device goes.device ∙ sym (ap (λ (s : MoveStage). holds_device s) well.runs);
+settled_placed : {P : Type 0} (goes : Bool) (port_view : P → PortView) (h new : HostModel P) → EndsAs goes h → SettlesBy goes port_view h new → MatchesSide new
+settled_placed false port_view h new well is = subst MatchesSide (sym is) well
+settled_placed true port_view h new well goes = subst MatchesSide (sym goes.rest) (record {
+  held = goes_on_runs (is_executing h.device.regs.phase) port_view h.device new.device goes.device ∙ sym (ap (λ (s : MoveStage). holds_device s) well.runs);
   least = well.least;
   most = well.most;
   at_top = subst (λ (s : MoveStage). IsAtTop s h.top) (sym well.runs) tt;
   keeps = subst (λ (s : MoveStage). HasRecord s h.record_bytes new.device) (sym well.runs) well.nothing;
 })
 
-made_placed : {P : Type 0} (known : P → Known) (after : After P) (answer : Delivered) (new : HostModel P) → EndsWell after → EndsIn known after answer new → MatchesSide new
-made_placed known after answer new well made = settled_placed after.goes_on known after.host new well.well made.host_is
+made_placed : {P : Type 0} (port_view : P → PortView) (after : After P) (answer : Delivered) (new : HostModel P) → EndsWell after → EndsIn port_view after answer new → MatchesSide new
+made_placed port_view after answer new well made = settled_placed after.goes_on port_view after.host new well.well made.host_is
 
-row_placed : {P Plan : Type 0} (known : P → Known) (row : Row P) (w v : WiresView Plan) (answer : Delivered) (new : HostModel P) → LeadsBy row → Follows known row w v answer new → MatchesSide new
-row_placed known (Ends after) w v answer new well follows = made_placed known after answer new well follows.1
-row_placed known (Stops next) w v answer new well follows = made_placed known (next follows.0) answer new (well follows.0) follows.2
-row_placed known (Fetches kind offset next) w v answer new well follows = made_placed known (next follows.0) answer new (well follows.0) follows.2
-row_placed known (Gives kind bytes next) w v answer new well follows = made_placed known (next follows.0) answer new (well follows.0) follows.2
-row_placed known (GivesLast bytes next) w v answer new well follows = made_placed known (next follows.0) answer new (well follows.0) follows.2
-row_placed known (Loads bytes next) w v answer new well follows = made_placed known (next follows.0) answer new (well follows.0 follows.1) follows.3
+row_placed : {P Schedule : Type 0} (port_view : P → PortView) (row : Row P) (w v : WiresView Schedule) (answer : Delivered) (new : HostModel P) → LeadsBy row → Follows port_view row w v answer new → MatchesSide new
+row_placed port_view (Ends after) w v answer new well follows = made_placed port_view after answer new well follows.1
+row_placed port_view (Stops next) w v answer new well follows = made_placed port_view (next follows.0) answer new (well follows.0) follows.2
+row_placed port_view (Fetches kind offset next) w v answer new well follows = made_placed port_view (next follows.0) answer new (well follows.0) follows.2
+row_placed port_view (Gives kind bytes next) w v answer new well follows = made_placed port_view (next follows.0) answer new (well follows.0) follows.2
+row_placed port_view (GivesLast bytes next) w v answer new well follows = made_placed port_view (next follows.0) answer new (well follows.0) follows.2
+row_placed port_view (Loads bytes next) w v answer new well follows = made_placed port_view (next follows.0) answer new (well follows.0 follows.1) follows.3
 
 -- ---- the rows
 
@@ -110,7 +110,7 @@ takes_well h totals None is four still = record { led = λ r. begins_well h tota
 
 wants_well : {P : Type 0} (h : HostModel P) (epoch : ℕ) (totals : List ℕ) (part : Part) (place : ℕ) → IsStill h → epoch ≡ h.top → AreTotals totals → place < total_of totals part → HasPrefix part place h.record_bytes h.device
     → EndsWell (wants h epoch totals part place)
-wants_well h epoch totals part place still top are lt front = record { well = record { held = still.held; least = still.least; most = still.most; at_top = top; keeps = (are, lt, front) } }
+wants_well h epoch totals part place still top are lt prefix = record { well = record { held = still.held; least = still.least; most = still.most; at_top = top; keeps = (are, lt, prefix) } }
 
 -- the part behind one that is whole is wanted
 goes_well : {P : Type 0} (h : HostModel P) (epoch : ℕ) (totals : List ℕ) (part : Part) → IsStill h → epoch ≡ h.top → AreTotals totals → IsRecord h.record_bytes (held_values h.device)
@@ -122,29 +122,29 @@ goes_well h epoch totals Saved still top are is = record { well = record { held 
 
 took_well : {P : Type 0} (h : HostModel P) (epoch : ℕ) (totals : List ℕ) (part : Part) (place : ℕ) (r : Result (Unit {0}) ClientFault) → IsStill h → epoch ≡ h.top → AreTotals totals
     → IsRecord h.record_bytes (held_values h.device) → HasPrefix part place h.record_bytes h.device → EndsWell (took h epoch totals part place r)
-took_well h epoch totals part place (Ok done) still top are is front =
+took_well h epoch totals part place (Ok done) still top are is prefix =
     cond_both (nat_lt place (total_of totals part)) _ _ EndsWell
-    (λ lt. wants_well h epoch totals part place still top are (ltb-true place _ lt) front)
+    (λ lt. wants_well h epoch totals part place still top are (ltb-true place _ lt) prefix)
     (λ full. goes_well h epoch totals part still top are is)
-took_well h epoch totals part place (Err fault) still top are is front = record { well = emptied_well h still }
+took_well h epoch totals part place (Err fault) still top are is prefix = record { well = emptied_well h still }
 
 loads_well : {P : Type 0} (h : HostModel P) (epoch : ℕ) (totals bytes : List ℕ) (r : Result DeviceValues Malformed) → IsStill h → epoch ≡ h.top → AreTotals totals → Decodes bytes r → EndsWell (loads h epoch totals bytes r)
-loads_well h epoch totals bytes (Ok v) still top are tells =
-    goes_well (record h { record_bytes = bytes; device = restored v h.device }) epoch totals Record (record { held = still.held; least = still.least; most = still.most }) top are tells
-loads_well h epoch totals bytes (Err fault) still top are tells = record { well = emptied_well h still }
+loads_well h epoch totals bytes (Ok v) still top are is_said =
+    goes_well (record h { record_bytes = bytes; device = restored v h.device }) epoch totals Record (record { held = still.held; least = still.least; most = still.most }) top are is_said
+loads_well h epoch totals bytes (Err fault) still top are is_said = record { well = emptied_well h still }
 
 takes_piece_well : {P : Type 0} (h : HostModel P) (epoch : ℕ) (totals : List ℕ) (next : Part) (place : ℕ) (bytes : List ℕ) → IsStill h → epoch ≡ h.top → AreTotals totals → HasPrefix next place h.record_bytes h.device
     → LeadsWell (takes_piece h epoch totals next (place + length bytes) bytes)
-takes_piece_well h epoch totals Record place bytes still top are front =
+takes_piece_well h epoch totals Record place bytes still top are prefix =
     cond_both (nat_lt (place + length bytes) (total_of totals Record)) _ _ LeadsWell
-    (λ lt. record { led = wants_well (record h { record_bytes = h.record_bytes ++ bytes }) epoch totals Record (place + length bytes) (record { held = still.held; least = still.least; most = still.most }) top are (ltb-true _ _ lt) (omega (arith, length-append h.record_bytes bytes, front)) })
-    (λ full. record { led = λ r tells. loads_well h epoch totals (h.record_bytes ++ bytes) r still top are tells })
-takes_piece_well h epoch totals Permanent place bytes still top are front = record { led = λ r. took_well h epoch totals Permanent (place + length bytes) r still top are front front }
-takes_piece_well h epoch totals Volatile place bytes still top are front = record { led = λ r. took_well h epoch totals Volatile (place + length bytes) r still top are front front }
-takes_piece_well h epoch totals Saved place bytes still top are front =
+    (λ lt. record { led = wants_well (record h { record_bytes = h.record_bytes ++ bytes }) epoch totals Record (place + length bytes) (record { held = still.held; least = still.least; most = still.most }) top are (ltb-true _ _ lt) (omega (arith, length-append h.record_bytes bytes, prefix)) })
+    (λ full. record { led = λ r is_said. loads_well h epoch totals (h.record_bytes ++ bytes) r still top are is_said })
+takes_piece_well h epoch totals Permanent place bytes still top are prefix = record { led = λ r. took_well h epoch totals Permanent (place + length bytes) r still top are prefix prefix }
+takes_piece_well h epoch totals Volatile place bytes still top are prefix = record { led = λ r. took_well h epoch totals Volatile (place + length bytes) r still top are prefix prefix }
+takes_piece_well h epoch totals Saved place bytes still top are prefix =
     cond_both (nat_lt (place + length bytes) (total_of totals Saved)) _ _ LeadsWell
-    (λ lt. record { led = λ r. took_well h epoch totals Saved (place + length bytes) r still top are front front })
-    (λ full. record { led = λ r. took_well h epoch totals Saved (place + length bytes) r still top are front front })
+    (λ lt. record { led = λ r. took_well h epoch totals Saved (place + length bytes) r still top are prefix prefix })
+    (λ full. record { led = λ r. took_well h epoch totals Saved (place + length bytes) r still top are prefix prefix })
 
 module _ {P : Type 0} (h : HostModel P) (placed : MatchesSide h) where
   same_well : (answer : Delivered) → EndsWell (record { host = h; answer = answer; goes_on = false })
@@ -253,6 +253,6 @@ module _ {P : Type 0} (h : HostModel P) (placed : MatchesSide h) where
   delivered_well m four = cond_both (is_same h.name m.to) _ _ LeadsWell (λ mine. message_well m.epoch m.body four) (λ other. ignored_well)
 
 -- a delivery leaves the host in its place
-pub delivered_placed : {P Plan : Type 0} (known : P → Known) (h : HostModel P) (m : Message) (w v : WiresView Plan) (answer : Delivered) (new : HostModel P)
-    → MatchesSide h → IsInRange m.body → Follows known (delivered h m) w v answer new → MatchesSide new
-delivered_placed known h m w v answer new placed four follows = row_placed known (delivered h m) w v answer new (delivered_well h placed m four).led follows
+pub delivered_placed : {P Schedule : Type 0} (port_view : P → PortView) (h : HostModel P) (m : Message) (w v : WiresView Schedule) (answer : Delivered) (new : HostModel P)
+    → MatchesSide h → IsInRange m.body → Follows port_view (delivered h m) w v answer new → MatchesSide new
+delivered_placed port_view h m w v answer new placed four follows = row_placed port_view (delivered h m) w v answer new (delivered_well h placed m four).led follows

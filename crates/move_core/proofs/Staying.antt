@@ -2,8 +2,8 @@
 use Rattle.std.proofs.Common.{◌≡◌, ℕ, ◌==◌, false, List, Ok, Err, ap}
 use Rattle.std.specs.Prelude.{Result, nat_lt}
 use Rattle.std.proofs.lemmas.Bool.{cond_both}
-use Rattle.vt_base.specs.declared.words.Malformed.{Malformed}
-use Rattle.crb_port.specs.Known.{Known}
+use Rattle.vt_base.specs.declared.types.Malformed.{Malformed}
+use Rattle.crb_port.specs.Views.{PortView}
 use Rattle.crb_machine.specs.Values.{DeviceValues}
 use Rattle.ctrl_client.specs.declared.fault.ClientFault.{ClientFault}
 use Rattle.move_codec.specs.declared.names.Part.{Part}
@@ -26,7 +26,7 @@ use Rattle.move_core.specs.Calls.{EndsIn, Follows}
 
 -- where the host still offers at this end, it is as before
 record StaysAt {P : Type 0} (h : HostModel P) (after : After P) : Type 0 where
-  stays : (known : P → Known) (answer : Delivered) (new : HostModel P) (e : ℕ) → EndsIn known after answer new → side_of new.stage ≡ side.Offering e → new ≡ h
+  stays : (port_view : P → PortView) (answer : Delivered) (new : HostModel P) (e : ℕ) → EndsIn port_view after answer new → side_of new.stage ≡ side.Offering e → new ≡ h
 
 abbrev StaysBy : {P : Type 0} → HostModel P → Row P → Type 0
 StaysBy h (Ends after) = StaysAt h after
@@ -39,14 +39,14 @@ StaysBy h (Loads bytes next) = (r : Result DeviceValues Malformed) → StaysAt h
 record Stays {P : Type 0} (h : HostModel P) (row : Row P) : Type 0 where
   by : StaysBy h row
 
-row_stays : {P Plan : Type 0} (known : P → Known) (h : HostModel P) (row : Row P) (w v : WiresView Plan) (answer : Delivered) (new : HostModel P) (e : ℕ)
-    → StaysBy h row → Follows known row w v answer new → side_of new.stage ≡ side.Offering e → new ≡ h
-row_stays known h (Ends after) w v answer new e by f offers = by.stays known answer new e f.1 offers
-row_stays known h (Stops next) w v answer new e by f offers = (by f.0).stays known answer new e f.2 offers
-row_stays known h (Fetches kind offset next) w v answer new e by f offers = (by f.0).stays known answer new e f.2 offers
-row_stays known h (Gives kind bytes next) w v answer new e by f offers = (by f.0).stays known answer new e f.2 offers
-row_stays known h (GivesLast bytes next) w v answer new e by f offers = (by f.0).stays known answer new e f.2 offers
-row_stays known h (Loads bytes next) w v answer new e by f offers = (by f.0).stays known answer new e f.3 offers
+row_stays : {P Schedule : Type 0} (port_view : P → PortView) (h : HostModel P) (row : Row P) (w v : WiresView Schedule) (answer : Delivered) (new : HostModel P) (e : ℕ)
+    → StaysBy h row → Follows port_view row w v answer new → side_of new.stage ≡ side.Offering e → new ≡ h
+row_stays port_view h (Ends after) w v answer new e by f offers = by.stays port_view answer new e f.1 offers
+row_stays port_view h (Stops next) w v answer new e by f offers = (by f.0).stays port_view answer new e f.2 offers
+row_stays port_view h (Fetches kind offset next) w v answer new e by f offers = (by f.0).stays port_view answer new e f.2 offers
+row_stays port_view h (Gives kind bytes next) w v answer new e by f offers = (by f.0).stays port_view answer new e f.2 offers
+row_stays port_view h (GivesLast bytes next) w v answer new e by f offers = (by f.0).stays port_view answer new e f.2 offers
+row_stays port_view h (Loads bytes next) w v answer new e by f offers = (by f.0).stays port_view answer new e f.3 offers
 
 not_released : (s : Side) (a b : ℕ) → s ≡ side.Released a → s ≡ side.Offering b → ⊥
 not_released s a b x y = absurd cc
@@ -64,7 +64,7 @@ active_at (Prepared epoch) e is passive = absurd cc
 
 module _ {P : Type 0} (h : HostModel P) where
   same_stays : (answer : Delivered) → StaysAt h (answers h answer)
-  same_stays answer = record { stays = λ known given new e ends offers. ends.host_is }
+  same_stays answer = record { stays = λ port_view given new e ends offers. ends.host_is }
 
   ignored_stays : Stays h (ignored h)
   ignored_stays = record { by = same_stays _ }
@@ -103,7 +103,7 @@ module _ {P : Type 0} (h : HostModel P) where
 
   prepared_stays : (s : MoveStage) (now : ℕ) → side_of s ≡ side.Offering now → (e : ℕ) → Stays h (on_prepared h s e)
   prepared_stays (Offering epoch totals) now is e = cond_both (epoch == e) _ _ (Stays h)
-      (λ same. record { by = record { stays = λ known given new f ends offers. absurd (not_released (side_of new.stage) e f (ap (λ (x : HostModel P). side_of x.stage) ends.host_is) offers) } })
+      (λ same. record { by = record { stays = λ port_view given new f ends offers. absurd (not_released (side_of new.stage) e f (ap (λ (x : HostModel P). side_of x.stage) ends.host_is) offers) } })
       (λ not_so. ignored_stays)
   prepared_stays Empty now is e = ignored_stays
   prepared_stays Running now is e = ignored_stays
@@ -129,7 +129,7 @@ module _ {P : Type 0} (h : HostModel P) where
 
   refuse_stays : (s : MoveStage) (now : ℕ) → side_of s ≡ side.Offering now → (e : ℕ) → Stays h (on_refuse h s e)
   refuse_stays (Offering epoch totals) now is e = cond_both (epoch == e) _ _ (Stays h)
-      (λ same. record { by = record { stays = λ known given new f ends offers. absurd (not_running (side_of new.stage) f (ap (λ (x : HostModel P). side_of x.stage) ends.host_is.rest) offers) } })
+      (λ same. record { by = record { stays = λ port_view given new f ends offers. absurd (not_running (side_of new.stage) f (ap (λ (x : HostModel P). side_of x.stage) ends.host_is.rest) offers) } })
       (λ not_so. ignored_stays)
   refuse_stays Empty now is e = ignored_stays
   refuse_stays Running now is e = ignored_stays
@@ -150,6 +150,6 @@ module _ {P : Type 0} (h : HostModel P) where
   unfolding delivered
   delivered_stays now is m = cond_both (is_same h.name m.to) _ _ (Stays h) (λ mine. message_stays now is m.epoch m.body) (λ other. ignored_stays)
 
-pub still_offers : {P Plan : Type 0} (known : P → Known) (h new : HostModel P) (m : Message) (w v : WiresView Plan) (answer : Delivered) (e f : ℕ)
-    → side_of h.stage ≡ side.Offering e → side_of new.stage ≡ side.Offering f → Follows known (delivered h m) w v answer new → new ≡ h
-still_offers known h new m w v answer e f is still follows = row_stays known h (delivered h m) w v answer new f (delivered_stays h e is m).by follows still
+pub still_offers : {P Schedule : Type 0} (port_view : P → PortView) (h new : HostModel P) (m : Message) (w v : WiresView Schedule) (answer : Delivered) (e f : ℕ)
+    → side_of h.stage ≡ side.Offering e → side_of new.stage ≡ side.Offering f → Follows port_view (delivered h m) w v answer new → new ≡ h
+still_offers port_view h new m w v answer e f is still follows = row_stays port_view h (delivered h m) w v answer new f (delivered_stays h e is m).by follows still

@@ -1,14 +1,14 @@
 -- What each call of a host does, in terms of the table of deliveries and of the requests to the emulator. (Own definitions.)
 use Rattle.std.specs.Prelude.{◌≡◌, ◌-◌, ◌+◌, ◌<◌, ◌^◌, ℕ, Bool, true, false, List, [], ◌∷◌, length, Option, Some, None, IfSome, Result, Ok, Err}
-use Rattle.vt_base.specs.declared.words.Malformed.{Malformed}
-use Rattle.vt_base.specs.declared.words.Kind.TheVariants as kind
-use Rattle.crb_port.specs.Known.{Known}
+use Rattle.vt_base.specs.declared.types.Malformed.{Malformed}
+use Rattle.vt_base.specs.declared.types.Kind.TheVariants as kind
+use Rattle.crb_port.specs.Views.{PortView}
 use Rattle.crb_regs.specs.Registers.{is_lost}
 use Rattle.crb_machine.specs.Values.{DeviceValues, held_values}
 use Rattle.crb_machine.specs.Steps.{collected}
 use Rattle.crb_machine.specs.Over.{Stops as DeviceStops, GoesOn, state_of}
 use Rattle.crb_machine.specs.Model.{DeviceModel}
-use Rattle.device_record.specs.Records.{record_text, IsRecord}
+use Rattle.device_record.specs.Records.{encode_record, IsRecord}
 use Rattle.ctrl_codec.specs.declared.request.Request.TheVariants.{Stop}
 use Rattle.ctrl_client.specs.declared.fault.ClientFault.{ClientFault}
 use Rattle.move_codec.specs.declared.message.Message.{Message}
@@ -30,33 +30,33 @@ use Rattle.move_core.specs.Table.Row.{Ends, Stops, Fetches, Gives, GivesLast, Lo
 -- ---- deliver
 
 -- only the device changes: it goes on
-pub record Resumes {P : Type 0} (known : P → Known) (h new : HostModel P) : Type 0 where
+pub record Resumes {P : Type 0} (port_view : P → PortView) (h new : HostModel P) : Type 0 where
   pub rest : new ≡ record h { device = new.device }
-  pub device : GoesOn known h.device new.device
+  pub device : GoesOn port_view h.device new.device
 
-abbrev pub SettlesBy : {P : Type 0} → Bool → (P → Known) → HostModel P → HostModel P → Type 0
-SettlesBy false known h new = new ≡ h
-SettlesBy true known h new = Resumes known h new
+abbrev pub SettlesBy : {P : Type 0} → Bool → (P → PortView) → HostModel P → HostModel P → Type 0
+SettlesBy false port_view h new = new ≡ h
+SettlesBy true port_view h new = Resumes port_view h new
 
 -- the answer and the host are those of a row's end
-pub record EndsIn {P : Type 0} (known : P → Known) (after : After P) (answer : Delivered) (new : HostModel P) : Type 0 where
+pub record EndsIn {P : Type 0} (port_view : P → PortView) (after : After P) (answer : Delivered) (new : HostModel P) : Type 0 where
   pub answer_is : answer ≡ after.answer
-  pub host_is : SettlesBy after.goes_on known after.host new
+  pub host_is : SettlesBy after.goes_on port_view after.host new
 
 -- A row was followed: its request was made, and the host and the answer are those that the row has for the emulator's answer.
-abbrev pub Follows : {P Plan : Type 0} → (P → Known) → Row P → WiresView Plan → WiresView Plan → Delivered → HostModel P → Type 0
-Follows known (Ends after) w v answer new = (v ≡ w) × EndsIn known after answer new
-Follows known (Stops next) w v answer new = (r : Result (Unit {0}) ClientFault) × Asks Stop [] w v r × EndsIn known (next r) answer new
-Follows known (Fetches kind offset next) w v answer new = (r : Result Fetched ClientFault) × FetchesPiece kind offset w v r × EndsIn known (next r) answer new
-Follows known (Gives kind bytes next) w v answer new = (r : Result (Unit {0}) ClientFault) × GivesPiece kind bytes w v r × EndsIn known (next r) answer new
-Follows known (GivesLast bytes next) w v answer new = (r : Result (Unit {0}) ClientFault) × GivesLastPiece bytes w v r × EndsIn known (next r) answer new
-Follows known (Loads bytes next) w v answer new = (r : Result DeviceValues Malformed) × Decodes bytes r × (v ≡ w) × EndsIn known (next r) answer new
+abbrev pub Follows : {P Schedule : Type 0} → (P → PortView) → Row P → WiresView Schedule → WiresView Schedule → Delivered → HostModel P → Type 0
+Follows port_view (Ends after) w v answer new = (v ≡ w) × EndsIn port_view after answer new
+Follows port_view (Stops next) w v answer new = (r : Result (Unit {0}) ClientFault) × Asks Stop [] w v r × EndsIn port_view (next r) answer new
+Follows port_view (Fetches kind offset next) w v answer new = (r : Result Fetched ClientFault) × FetchesPiece kind offset w v r × EndsIn port_view (next r) answer new
+Follows port_view (Gives kind bytes next) w v answer new = (r : Result (Unit {0}) ClientFault) × GivesPiece kind bytes w v r × EndsIn port_view (next r) answer new
+Follows port_view (GivesLast bytes next) w v answer new = (r : Result (Unit {0}) ClientFault) × GivesLastPiece bytes w v r × EndsIn port_view (next r) answer new
+Follows port_view (Loads bytes next) w v answer new = (r : Result DeviceValues Malformed) × Decodes bytes r × (v ≡ w) × EndsIn port_view (next r) answer new
 
 -- a row without a request was followed
-abbrev pub FollowsAlone : {P : Type 0} → (P → Known) → Row P → Delivered → HostModel P → Type 0
-FollowsAlone known (Ends after) answer new = EndsIn known after answer new
-FollowsAlone known (Loads bytes next) answer new = (r : Result DeviceValues Malformed) × Decodes bytes r × EndsIn known (next r) answer new
-FollowsAlone known _ answer new = ⊥
+abbrev pub FollowsAlone : {P : Type 0} → (P → PortView) → Row P → Delivered → HostModel P → Type 0
+FollowsAlone port_view (Ends after) answer new = EndsIn port_view after answer new
+FollowsAlone port_view (Loads bytes next) answer new = (r : Result DeviceValues Malformed) × Decodes bytes r × EndsIn port_view (next r) answer new
+FollowsAlone port_view _ answer new = ⊥
 
 -- a Piece has at least one byte
 abbrev pub HasBytes : Body → Type 0
@@ -70,20 +70,20 @@ IsNeed _ = ⊥
 -- ---- offer
 
 -- The host has made its offer: the lengths of the record of its held device and of the emulator's three blobs, in the next epoch.
-pub record OffersParts {P Plan : Type 0} (h : HostModel P) (w v : WiresView Plan) (m : Message) (new : HostModel P) : Type 0 where
+pub record OffersParts {P Schedule : Type 0} (h : HostModel P) (w v : WiresView Schedule) (m : Message) (new : HostModel P) : Type 0 where
   pub below : h.top < 2 ^ 64 - 1
   pub totals : List ℕ
   pub asked : GetsTotals (kind.Permanent ∷ kind.Volatile ∷ kind.Saved ∷ []) w v (Ok totals)
-  pub said : m ≡ message_from h.name (h.top + 1) (body.Offer (length (record_text (held_values h.device)) ∷ totals))
+  pub said : m ≡ message_from h.name (h.top + 1) (body.Offer (length (encode_record (held_values h.device)) ∷ totals))
   pub new_is : new ≡ record h {
     top = h.top + 1;
-    stage = Offering (h.top + 1) (length (record_text (held_values h.device)) ∷ totals);
-    record_bytes = record_text (held_values h.device);
+    stage = Offering (h.top + 1) (length (encode_record (held_values h.device)) ∷ totals);
+    record_bytes = encode_record (held_values h.device);
   }
   pub fit : IsRecord new.record_bytes (held_values h.device)
 
 -- each answer of an offer with its cause, over a device that was stopped
-abbrev pub OffersHeld : {P Plan : Type 0} → HostModel P → WiresView Plan → Result Message OfferFault → WiresView Plan → HostModel P → Type 0
+abbrev pub OffersHeld : {P Schedule : Type 0} → HostModel P → WiresView Schedule → Result Message OfferFault → WiresView Schedule → HostModel P → Type 0
 OffersHeld h w (Ok m) v new = (is_lost h.device.regs.phase ≡ false) × OffersParts h w v m new
 OffersHeld h w (Err fault.Device) v new = (is_lost h.device.regs.phase ≡ true) × (v ≡ w) × (new ≡ h)
 OffersHeld h w (Err fault.EpochEnd) v new = (is_lost h.device.regs.phase ≡ false) × (h.top ≡ 2 ^ 64 - 1) × (v ≡ w) × (new ≡ h)
@@ -93,34 +93,34 @@ OffersHeld h w (Err fault.Stopped) v new = ⊥
 OffersHeld h w (Err (fault.NotYet number)) v new = ⊥
 
 -- after a refusal the device goes on
-abbrev pub EndsOffer : {P : Type 0} → (P → Known) → Result Message OfferFault → HostModel P → HostModel P → Type 0
-EndsOffer known (Ok m) h new = new ≡ h
-EndsOffer known (Err f) h new = Resumes known h new
+abbrev pub EndsOffer : {P : Type 0} → (P → PortView) → Result Message OfferFault → HostModel P → HostModel P → Type 0
+EndsOffer port_view (Ok m) h new = new ≡ h
+EndsOffer port_view (Err f) h new = Resumes port_view h new
 
 -- the device was stopped, the offer was made or refused, and after a refusal the device went on
-pub record StopsAndOffers {P Plan : Type 0} (known : P → Known) (h : HostModel P) (w : WiresView Plan) (answer : Result Message OfferFault) (v : WiresView Plan) (new : HostModel P) : Type 0 where
+pub record StopsAndOffers {P Schedule : Type 0} (port_view : P → PortView) (h : HostModel P) (w : WiresView Schedule) (answer : Result Message OfferFault) (v : WiresView Schedule) (new : HostModel P) : Type 0 where
   pub device : DeviceModel P
-  pub stops : DeviceStops known h.device (Ok tt) device
+  pub stops : DeviceStops port_view h.device (Ok tt) device
   pub held : HostModel P
   pub offers : OffersHeld (record h { device = device }) w answer v held
-  pub ends : EndsOffer known answer held new
+  pub ends : EndsOffer port_view answer held new
 
 -- each answer of an offer with its cause
-abbrev pub Offers : {P Plan : Type 0} → (P → Known) → HostModel P → WiresView Plan → Result Message OfferFault → WiresView Plan → HostModel P → Type 0
-Offers known h w (Err fault.Stopped) v new = (is_running h.stage ≡ false) × (v ≡ w) × (new ≡ h)
-Offers known h w (Err (fault.NotYet number)) v new =
-    (h.stage ≡ Running) × (v ≡ w) × DeviceStops known h.device (Err (record { number = number })) new.device × (new ≡ record h { device = new.device })
-Offers known h w answer v new = (h.stage ≡ Running) × StopsAndOffers known h w answer v new
+abbrev pub Offers : {P Schedule : Type 0} → (P → PortView) → HostModel P → WiresView Schedule → Result Message OfferFault → WiresView Schedule → HostModel P → Type 0
+Offers port_view h w (Err fault.Stopped) v new = (is_running h.stage ≡ false) × (v ≡ w) × (new ≡ h)
+Offers port_view h w (Err (fault.NotYet number)) v new =
+    (h.stage ≡ Running) × (v ≡ w) × DeviceStops port_view h.device (Err (record { number = number })) new.device × (new ≡ record h { device = new.device })
+Offers port_view h w answer v new = (h.stage ≡ Running) × StopsAndOffers port_view h w answer v new
 
 -- ---- give_up and again
 
-abbrev pub GivesUpAt : {P : Type 0} → MoveStage → (P → Known) → HostModel P → Option Message → HostModel P → Type 0
-GivesUpAt (Offering e totals) known h answer new =
-    (answer ≡ Some (message_from h.name e body.Abort)) × Resumes known (record h { stage = Running; record_bytes = [] }) new
-GivesUpAt _ known h answer new = (answer ≡ None) × (new ≡ h)
+abbrev pub GivesUpAt : {P : Type 0} → MoveStage → (P → PortView) → HostModel P → Option Message → HostModel P → Type 0
+GivesUpAt (Offering e totals) port_view h answer new =
+    (answer ≡ Some (message_from h.name e body.Abort)) × Resumes port_view (record h { stage = Running; record_bytes = [] }) new
+GivesUpAt _ port_view h answer new = (answer ≡ None) × (new ≡ h)
 
-abbrev pub GivesUp : {P : Type 0} → (P → Known) → HostModel P → Option Message → HostModel P → Type 0
-GivesUp known h answer new = GivesUpAt h.stage known h answer new
+abbrev pub GivesUp : {P : Type 0} → (P → PortView) → HostModel P → Option Message → HostModel P → Type 0
+GivesUp port_view h answer new = GivesUpAt h.stage port_view h answer new
 
 -- the message that a prepared host repeats
 abbrev pub said_again : {P : Type 0} → MoveStage → HostModel P → Option Message
@@ -130,15 +130,15 @@ said_again _ h = None
 -- ---- what is undone
 
 -- where the port's state is known: the device, with the answer collected that waited in its port
-abbrev pub IsSameDevice : {P : Type 0} → (P → Known) → DeviceModel P → DeviceModel P → Type 0
-IsSameDevice known d e = IfSome (state_of known d) (λ s. state_of known e ≡ Some (collected s))
+abbrev pub IsSameDevice : {P : Type 0} → (P → PortView) → DeviceModel P → DeviceModel P → Type 0
+IsSameDevice port_view d e = IfSome (state_of port_view d) (λ s. state_of port_view e ≡ Some (collected s))
 
 -- the host is as before, but that its device may have collected an answer
-pub record IsAsBefore {P : Type 0} (known : P → Known) (h new : HostModel P) : Type 0 where
+pub record IsAsBefore {P : Type 0} (port_view : P → PortView) (h new : HostModel P) : Type 0 where
   pub rest : new ≡ record h { device = new.device }
-  pub device : IsSameDevice known h.device new.device
+  pub device : IsSameDevice port_view h.device new.device
 
 -- and but for the greatest epoch seen
-pub record IsAsBeforeButTop {P : Type 0} (known : P → Known) (h new : HostModel P) : Type 0 where
+pub record IsAsBeforeButTop {P : Type 0} (port_view : P → PortView) (h new : HostModel P) : Type 0 where
   pub rest : new ≡ record h { top = new.top; device = new.device }
-  pub device : IsSameDevice known h.device new.device
+  pub device : IsSameDevice port_view h.device new.device

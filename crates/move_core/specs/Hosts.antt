@@ -1,14 +1,14 @@
 -- What holds of every host. (Own definitions.)
 use Rattle.std.specs.Prelude.{◌≡◌, ◌≤◌, ◌<◌, ℕ, false, List, [], length, Some, Result, Ok, Err}
-use Rattle.vt_base.specs.declared.words.Malformed.{Malformed}
-use Rattle.move_codec.specs.declared.names.HostName.{HostName}
+use Rattle.vt_base.specs.declared.types.Malformed.{Malformed}
+use Rattle.vt_base.specs.declared.types.HostName.{HostName}
 use Rattle.move_codec.specs.declared.names.Part.{Part}
 use Rattle.move_codec.specs.declared.names.Part.TheVariants as part
-use Rattle.crb_port.specs.Known.{Known}
+use Rattle.crb_port.specs.Views.{PortView}
 use Rattle.crb_machine.specs.Values.{DeviceValues, held_values}
 use Rattle.vt_base.specs.Buffer.{zeros}
 use Rattle.crb_regs.specs.Registers.{reset_regs}
-use Rattle.crb_machine.specs.Over.{IsSound, OwnParts, own_parts}
+use Rattle.crb_machine.specs.Over.{IsConsistentDevice, OwnParts, own_parts}
 use Rattle.crb_machine.specs.Model.{DeviceModel}
 use Rattle.device_record.specs.Records.{IsRecord}
 use Rattle.device_record.specs.Layouts.{IsRefused}
@@ -53,16 +53,16 @@ pub record MatchesSide {P : Type 0} (h : HostModel P) : Type 0 where
   pub keeps : HasRecord h.stage h.record_bytes h.device
 
 -- what holds of every host
-pub record IsConsistentHost {P : Type 0} (known : P → Known) (h : HostModel P) : Type 0 where
+pub record IsConsistentHost {P : Type 0} (port_view : P → PortView) (h : HostModel P) : Type 0 where
   pub matches_side : MatchesSide h
-  pub device : IsSound known h.device
+  pub device : IsConsistentDevice port_view h.device
 
 -- the held device, with these values
 abbrev pub restored : {P : Type 0} → DeviceValues → DeviceModel P → DeviceModel P
 restored v d = record d {
   regs = record { granted = v.granted; cancel = v.cancel; phase = v.phase };
   number = v.number;
-  home = Some v.content;
+  own_buffer = Some v.content;
   cancelled = v.cancelled;
 }
 
@@ -73,7 +73,7 @@ Decodes bytes (Err fault) = IsRefused fault bytes
 
 -- a new device over this port
 abbrev pub new_device : {P : Type 0} → P → DeviceModel P
-new_device port = record { regs = reset_regs; number = 0; home = Some (zeros 3968); held = false; cancelled = false; port = port }
+new_device port = record { regs = reset_regs; number = 0; own_buffer = Some (zeros 3968); held = false; cancelled = false; port = port }
 
 -- what a host is beside its port
 pub record HostRest : Type 0 where

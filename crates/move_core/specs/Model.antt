@@ -1,6 +1,6 @@
 -- What contracts see of a host over any port. (Own definition.)
 use Rattle.std.specs.Prelude.{ℕ, List}
-use Rattle.move_codec.specs.declared.names.HostName.{HostName}
+use Rattle.vt_base.specs.declared.types.HostName.{HostName}
 use Rattle.crb_machine.specs.Model.{DeviceModel}
 use Rattle.move_core.specs.declared.stage.MoveStage.{MoveStage}
 

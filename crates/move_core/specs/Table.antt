@@ -1,14 +1,14 @@
 -- The table of deliveries: the row for each message at each side, the request that it makes, and what follows by each answer of
 -- the emulator. docs/MIGRATION.md has it in words. (Own definitions.)
 use Rattle.std.specs.Prelude.{ℕ, ◌+◌, ◌==◌, ◌&&◌, Bool, true, false, nat_lt, nat_le, if◌then◌else◌, List, [], ◌++◌, length, Option, Some, None, Result, Ok, Err}
-use Rattle.vt_base.specs.declared.words.Malformed.{Malformed}
-use Rattle.vt_base.specs.declared.words.Kind.{Kind}
-use Rattle.vt_base.specs.declared.words.Kind.TheVariants as kind
+use Rattle.vt_base.specs.declared.types.Malformed.{Malformed}
+use Rattle.vt_base.specs.declared.types.Kind.{Kind}
+use Rattle.vt_base.specs.declared.types.Kind.TheVariants as kind
 use Rattle.crb_machine.specs.Values.{DeviceValues}
-use Rattle.state_blobs.specs.Texts.{slice}
+use Rattle.state_blobs.specs.Encodings.{slice}
 use Rattle.ctrl_client.specs.declared.fault.ClientFault.{ClientFault}
 use Rattle.ctrl_client.specs.declared.fault.ClientFault.TheVariants.{Link, Result as BadResult, Reply as BadReply}
-use Rattle.move_codec.specs.declared.names.HostName.{HostName}
+use Rattle.vt_base.specs.declared.types.HostName.{HostName}
 use Rattle.move_codec.specs.declared.names.Part.{Part}
 use Rattle.move_codec.specs.declared.names.Part.TheVariants.{Record, Permanent, Volatile, Saved}
 use Rattle.move_codec.specs.declared.names.Reason.{Reason}

@@ -2,9 +2,10 @@
 ghost use Rattle.std.specs.Prelude.{◌≡◌, ◌<◌, ◌≤◌, [], ◌∷◌, length, IfOk, OnErr, Ok, Err};
 ghost use Rattle.ctrl_codec.specs.declared.request.Request.TheVariants.{Stop};
 ghost use Rattle.move_core.specs.Requests.{wires_view, Asks, FetchesPiece, Gets, GivesPiece, GivesLastPiece, GetsTotal, GetsTotals, listed, SwitchesOn};
-ghost use Rattle.vt_base.specs.declared.words.Kind.TheVariants.{Permanent, Volatile, Saved};
+ghost use Rattle.vt_base.specs.declared.types.Kind.TheVariants.{Permanent, Volatile, Saved};
 
-use ctrl_client::{ClientFault, LARGEST_PIECE, Wires, get_piece, init, put_piece, stop};
+use ctrl_client::{ClientFault, Wires, get_piece, init, put_piece, stop};
+use ctrl_model::LARGEST_PIECE;
 use state_blobs::Piece;
 use std::alloc::{AllocError, Global};
 use vt_base::{Bytes, Kind};
@@ -18,8 +19,8 @@ pub struct Fetched {
 
 /// Switches the emulator off, so that it takes blobs.
 pub fn switch_off<W: Wires>(wires: &mut W) -> Result<(), ClientFault>
-    ensures { let w = wires_view W.fails W.later (W.link wires.old) (W.plan wires.old) (W.faults wires.old) (W.traffic wires.old) in
-        let v = wires_view W.fails W.later (W.link wires.new) (W.plan wires.new) (W.faults wires.new) (W.traffic wires.new) in
+    ensures { let w = wires_view W.fails W.later (W.link wires.old) (W.schedule wires.old) (W.faults wires.old) (W.traffic wires.old) in
+        let v = wires_view W.fails W.later (W.link wires.new) (W.schedule wires.new) (W.faults wires.new) (W.traffic wires.new) in
         Asks Stop [] w v result }
 {
     stop(wires)
@@ -29,8 +30,8 @@ pub fn switch_off<W: Wires>(wires: &mut W) -> Result<(), ClientFault>
 pub fn give<W: Wires>(wires: &mut W, kind: Kind, bytes: &[u8]) -> Result<(), ClientFault>
     requires some { 0 < length bytes.now }
     requires most { length bytes.now ≤ LARGEST_PIECE }
-    ensures { let w = wires_view W.fails W.later (W.link wires.old) (W.plan wires.old) (W.faults wires.old) (W.traffic wires.old) in
-        let v = wires_view W.fails W.later (W.link wires.new) (W.plan wires.new) (W.faults wires.new) (W.traffic wires.new) in
+    ensures { let w = wires_view W.fails W.later (W.link wires.old) (W.schedule wires.old) (W.faults wires.old) (W.traffic wires.old) in
+        let v = wires_view W.fails W.later (W.link wires.new) (W.schedule wires.new) (W.faults wires.new) (W.traffic wires.new) in
         GivesPiece kind bytes.now w v result }
 {
     put_piece(wires, kind, bytes)
@@ -38,8 +39,8 @@ pub fn give<W: Wires>(wires: &mut W, kind: Kind, bytes: &[u8]) -> Result<(), Cli
 
 // Switches the emulator on, with the blobs that it was given, unless the last piece failed.
 fn switch_on<W: Wires>(wires: &mut W, given: Result<(), ClientFault>) -> Result<(), ClientFault>
-    ensures { let w = wires_view W.fails W.later (W.link wires.old) (W.plan wires.old) (W.faults wires.old) (W.traffic wires.old) in
-        let v = wires_view W.fails W.later (W.link wires.new) (W.plan wires.new) (W.faults wires.new) (W.traffic wires.new) in
+    ensures { let w = wires_view W.fails W.later (W.link wires.old) (W.schedule wires.old) (W.faults wires.old) (W.traffic wires.old) in
+        let v = wires_view W.fails W.later (W.link wires.new) (W.schedule wires.new) (W.faults wires.new) (W.traffic wires.new) in
         SwitchesOn given w v result }
 {
     match given {
@@ -52,8 +53,8 @@ fn switch_on<W: Wires>(wires: &mut W, given: Result<(), ClientFault>) -> Result<
 pub fn give_last<W: Wires>(wires: &mut W, bytes: &[u8]) -> Result<(), ClientFault>
     requires some { 0 < length bytes.now }
     requires most { length bytes.now ≤ LARGEST_PIECE }
-    ensures { let w = wires_view W.fails W.later (W.link wires.old) (W.plan wires.old) (W.faults wires.old) (W.traffic wires.old) in
-        let v = wires_view W.fails W.later (W.link wires.new) (W.plan wires.new) (W.faults wires.new) (W.traffic wires.new) in
+    ensures { let w = wires_view W.fails W.later (W.link wires.old) (W.schedule wires.old) (W.faults wires.old) (W.traffic wires.old) in
+        let v = wires_view W.fails W.later (W.link wires.new) (W.schedule wires.new) (W.faults wires.new) (W.traffic wires.new) in
         GivesLastPiece bytes.now w v result }
 {
     let given = give(wires, Kind::Saved, bytes);
@@ -67,8 +68,8 @@ fn get<W: Wires>(
     offset: u32,
     into: &mut [u8],
 ) -> Result<Piece, ClientFault>
-    ensures { let w = wires_view W.fails W.later (W.link wires.old) (W.plan wires.old) (W.faults wires.old) (W.traffic wires.old) in
-        let v = wires_view W.fails W.later (W.link wires.new) (W.plan wires.new) (W.faults wires.new) (W.traffic wires.new) in
+    ensures { let w = wires_view W.fails W.later (W.link wires.old) (W.schedule wires.old) (W.faults wires.old) (W.traffic wires.old) in
+        let v = wires_view W.fails W.later (W.link wires.new) (W.schedule wires.new) (W.faults wires.new) (W.traffic wires.new) in
         Gets kind offset w v into.old into.new result }
 {
     get_piece(wires, kind, offset, into)
@@ -83,8 +84,8 @@ pub fn fetch<W: Wires>(
     offset: u32,
 ) -> Result<Result<Fetched, ClientFault>, AllocError>
     ensures fetches { IfOk result (λ got.
-        let w = wires_view W.fails W.later (W.link wires.old) (W.plan wires.old) (W.faults wires.old) (W.traffic wires.old) in
-        let v = wires_view W.fails W.later (W.link wires.new) (W.plan wires.new) (W.faults wires.new) (W.traffic wires.new) in
+        let w = wires_view W.fails W.later (W.link wires.old) (W.schedule wires.old) (W.faults wires.old) (W.traffic wires.old) in
+        let v = wires_view W.fails W.later (W.link wires.new) (W.schedule wires.new) (W.faults wires.new) (W.traffic wires.new) in
         FetchesPiece kind offset w v got) }
     ensures untouched { OnErr result (wires.new ≡ wires.old) }
 {
@@ -103,8 +104,8 @@ pub fn fetch<W: Wires>(
 
 // Asks for the length of a blob.
 fn total<W: Wires>(wires: &mut W, kind: Kind) -> Result<u32, ClientFault>
-    ensures { let w = wires_view W.fails W.later (W.link wires.old) (W.plan wires.old) (W.faults wires.old) (W.traffic wires.old) in
-        let v = wires_view W.fails W.later (W.link wires.new) (W.plan wires.new) (W.faults wires.new) (W.traffic wires.new) in
+    ensures { let w = wires_view W.fails W.later (W.link wires.old) (W.schedule wires.old) (W.faults wires.old) (W.traffic wires.old) in
+        let v = wires_view W.fails W.later (W.link wires.new) (W.schedule wires.new) (W.faults wires.new) (W.traffic wires.new) in
         GetsTotal kind w v result }
 {
     let mut room = [0; LARGEST_PIECE];
@@ -116,8 +117,8 @@ fn total<W: Wires>(wires: &mut W, kind: Kind) -> Result<u32, ClientFault>
 
 /// Asks for the lengths of the three blobs, up to the first fault.
 pub fn totals<W: Wires>(wires: &mut W) -> Result<(u32, u32, u32), ClientFault>
-    ensures { let w = wires_view W.fails W.later (W.link wires.old) (W.plan wires.old) (W.faults wires.old) (W.traffic wires.old) in
-        let v = wires_view W.fails W.later (W.link wires.new) (W.plan wires.new) (W.faults wires.new) (W.traffic wires.new) in
+    ensures { let w = wires_view W.fails W.later (W.link wires.old) (W.schedule wires.old) (W.faults wires.old) (W.traffic wires.old) in
+        let v = wires_view W.fails W.later (W.link wires.new) (W.schedule wires.new) (W.faults wires.new) (W.traffic wires.new) in
         GetsTotals (Permanent ∷ Volatile ∷ Saved ∷ []) w v (listed result) }
 {
     match total(wires, Kind::Permanent) {

@@ -1,9 +1,9 @@
 //! A host, as the crates above call it.
 ghost use Rattle.std.specs.Prelude.{◌≡◌, ◌≤◌, ◌<◌, ◌^◌, [], true, false, Ok, Some, None, IfOk, OnErr, IfSome, IsNone, IsSome};
 ghost use Rattle.crb_regs.specs.Registers.{is_lost};
-ghost use Rattle.crb_regs.specs.LittleEndian.{number_at};
+ghost use Rattle.crb_regs.specs.LittleEndian.{little_endian_at};
 ghost use Rattle.crb_port.specs.Calls.{KeepsWorker};
-ghost use Rattle.crb_machine.specs.Over.{IsSound, HasInHand, Settles, Writes, Resets, own_byte, state_of};
+ghost use Rattle.crb_machine.specs.Over.{IsConsistentDevice, HasClaimedNumber, CollectsAnswer, Writes, Resets, own_byte, state_of};
 ghost use Rattle.crb_machine.specs.Steps.{collected, written, device_byte, after_reset, reset_reply, failed};
 ghost use Rattle.move_core.specs.Requests.{wires_view};
 ghost use Rattle.move_core.specs.Sides.{side_of, is_running};
@@ -23,9 +23,10 @@ use crb_port::Port;
 use crb_regs::{Access, Phase};
 use ctrl_client::Wires;
 use device_record::RECORD_ROOM;
-use move_codec::{HostName, Message};
+use move_codec::Message;
 use std::alloc::{AllocError, Global};
 use std::marker::Model;
+use vt_base::HostName;
 
 /// One of two hosts between which a virtual TPM moves. It owns the device, which is held at every side but `Running`, and
 /// lends no reference to it. Its emulator is behind wires, which are an argument of each call that uses them.
@@ -46,7 +47,7 @@ impl<P: Port> Model for Host<P> {
 
     ghost view = { λ h. model_of h.parts };
 
-    ghost invariant = { λ h. IsConsistentHost P.known (model_of h.parts) };
+    ghost invariant = { λ h. IsConsistentHost P.port_view (model_of h.parts) };
 }
 
 impl<P: Port + Drop> Host<P> {
@@ -63,7 +64,7 @@ impl<P: Port + Drop> Host<P> {
         requires most { piece ≤ 4096 }
 
         ensures made { IfOk result (λ h. h ≡ record { name = name; piece = piece; top = 0; stage = MoveStage.Running; record_bytes = []; device = device }) }
-        ensures sound { IfOk result (IsConsistentHost P.known) }
+        ensures consistent { IfOk result (IsConsistentHost P.port_view) }
     {
         let record_bytes = RecordBuf::new(alloc)?;
         let _held = device.is_held();
@@ -94,7 +95,7 @@ impl<P: Port + Drop> Host<P> {
         requires most { piece ≤ 4096 }
 
         ensures made { IfOk result (λ h. h ≡ record { name = name; piece = piece; top = 0; stage = MoveStage.Empty; record_bytes = []; device = record device { held = true } }) }
-        ensures sound { IfOk result (IsConsistentHost P.known) }
+        ensures consistent { IfOk result (IsConsistentHost P.port_view) }
     {
         let record_bytes = RecordBuf::new(alloc)?;
         let mut device = device;
@@ -118,7 +119,7 @@ impl<P: Port> Host<P> {
     /// What the host is in a move, with its epoch.
     pub fn side(&self) -> Side
         ensures value { result ≡ side_of self.now.stage }
-        ensures sound { IsConsistentHost P.known self.now }
+        ensures consistent { IsConsistentHost P.port_view self.now }
     {
         self.parts.stage.side()
     }
@@ -150,13 +151,13 @@ impl<P: Port> Host<P> {
     /// An [`OfferFault`] says why no offer is made. The guest then goes on here, and the host is as before, but for an answer
     /// that was collected from its port ([`laws::offers_are_undone`](crate::laws::offers_are_undone)).
     pub fn offer<W: Wires>(&mut self, wires: &mut W) -> Result<Message, OfferFault>
-        ensures offers { let w = wires_view W.fails W.later (W.link wires.old) (W.plan wires.old) (W.faults wires.old) (W.traffic wires.old) in
-            let v = wires_view W.fails W.later (W.link wires.new) (W.plan wires.new) (W.faults wires.new) (W.traffic wires.new) in
-            Offers P.known self.old w result v self.new }
+        ensures offers { let w = wires_view W.fails W.later (W.link wires.old) (W.schedule wires.old) (W.faults wires.old) (W.traffic wires.old) in
+            let v = wires_view W.fails W.later (W.link wires.new) (W.schedule wires.new) (W.faults wires.new) (W.traffic wires.new) in
+            Offers P.port_view self.old w result v self.new }
         ensures counts { CountsIf (offered_by_link result) (W.faults wires.old) (W.faults wires.new) }
-        ensures sound { IsConsistentHost P.known self.new }
-        ensures worker { KeepsWorker (P.known self.old.device.port) (P.known self.new.device.port) }
-        ensures rest { P.rest self.new.device.port ≡ P.rest self.old.device.port }
+        ensures consistent { IsConsistentHost P.port_view self.new }
+        ensures worker { KeepsWorker (P.port_view self.old.device.port) (P.port_view self.new.device.port) }
+        ensures rest_unchanged { P.rest self.new.device.port ≡ P.rest self.old.device.port }
         ensures name { self.new.name ≡ self.old.name }
         ensures top { self.old.top ≤ self.new.top }
     {
@@ -177,13 +178,13 @@ impl<P: Port> Host<P> {
         requires bytes { HasBytes m.now.body }
 
         ensures row { IfOk result (λ answer.
-            let w = wires_view W.fails W.later (W.link wires.old) (W.plan wires.old) (W.faults wires.old) (W.traffic wires.old) in
-            let v = wires_view W.fails W.later (W.link wires.new) (W.plan wires.new) (W.faults wires.new) (W.traffic wires.new) in
-            Follows P.known (delivered self.old m.now) w v answer self.new) }
+            let w = wires_view W.fails W.later (W.link wires.old) (W.schedule wires.old) (W.faults wires.old) (W.traffic wires.old) in
+            let v = wires_view W.fails W.later (W.link wires.new) (W.schedule wires.new) (W.faults wires.new) (W.traffic wires.new) in
+            Follows P.port_view (delivered self.old m.now) w v answer self.new) }
         ensures counts { IfOk result (λ answer. CountsIf (delivered_by_link answer) (W.faults wires.old) (W.faults wires.new)) }
-        ensures sound { IsConsistentHost P.known self.new }
-        ensures worker { KeepsWorker (P.known self.old.device.port) (P.known self.new.device.port) }
-        ensures rest { P.rest self.new.device.port ≡ P.rest self.old.device.port }
+        ensures consistent { IsConsistentHost P.port_view self.new }
+        ensures worker { KeepsWorker (P.port_view self.old.device.port) (P.port_view self.new.device.port) }
+        ensures rest_unchanged { P.rest self.new.device.port ≡ P.rest self.old.device.port }
         ensures need { OnErr result (IsNeed m.now.body) }
         ensures same { OnErr result (self.new ≡ self.old) }
         ensures untouched { OnErr result (wires.new ≡ wires.old) }
@@ -196,10 +197,10 @@ impl<P: Port> Host<P> {
     /// Takes the offer back: the guest goes on here, and the Abort is to be sent. `None`, and nothing changes, exactly where
     /// the side isn't `Offering`. It uses no wires and allocates nothing.
     pub fn give_up(&mut self) -> Option<Message>
-        ensures gives_up { GivesUp P.known self.old result self.new }
-        ensures sound { IsConsistentHost P.known self.new }
-        ensures worker { KeepsWorker (P.known self.old.device.port) (P.known self.new.device.port) }
-        ensures rest { P.rest self.new.device.port ≡ P.rest self.old.device.port }
+        ensures gives_up { GivesUp P.port_view self.old result self.new }
+        ensures consistent { IsConsistentHost P.port_view self.new }
+        ensures worker { KeepsWorker (P.port_view self.old.device.port) (P.port_view self.new.device.port) }
+        ensures rest_unchanged { P.rest self.new.device.port ≡ P.rest self.old.device.port }
         ensures name { self.new.name ≡ self.old.name }
         ensures top { self.old.top ≤ self.new.top }
     {
@@ -217,12 +218,12 @@ impl<P: Port> Host<P> {
     /// stopped for it, and the guest then goes on. `Stopped`, `Device` and `NotYet` come as from [`Host::offer`], and leave
     /// `into` as it was.
     pub fn write_record(&mut self, into: &mut [u8; RECORD_ROOM]) -> Result<usize, OfferFault>
-        ensures records { Records P.known self.old result into.new self.new }
+        ensures records { Records P.port_view self.old result into.new self.new }
         ensures within { IfOk result (λ count. count ≤ 3991) }
         ensures untouched { OnErr result (into.new ≡ into.old) }
-        ensures sound { IsConsistentHost P.known self.new }
-        ensures worker { KeepsWorker (P.known self.old.device.port) (P.known self.new.device.port) }
-        ensures rest { P.rest self.new.device.port ≡ P.rest self.old.device.port }
+        ensures consistent { IsConsistentHost P.port_view self.new }
+        ensures worker { KeepsWorker (P.port_view self.old.device.port) (P.port_view self.new.device.port) }
+        ensures rest_unchanged { P.rest self.new.device.port ≡ P.rest self.old.device.port }
         ensures others { self.new ≡ record self.old { device = self.new.device } }
     {
         self.parts.write_record(into)
@@ -233,16 +234,16 @@ impl<P: Port> Host<P> {
         requires runs { is_running self.old.stage ≡ true }
         requires reads { IsNone a.now.write }
 
-        ensures settles { Settles P.known self.old.device self.new.device }
-        ensures worker { KeepsWorker (P.known self.old.device.port) (P.known self.new.device.port) }
-        ensures value { result ≡ number_at (own_byte self.new.device) a.now.offset a.now.size }
+        ensures settles { CollectsAnswer P.port_view self.old.device self.new.device }
+        ensures worker { KeepsWorker (P.port_view self.old.device.port) (P.port_view self.new.device.port) }
+        ensures value { result ≡ little_endian_at (own_byte self.new.device) a.now.offset a.now.size }
         ensures below { result < 256 ^ a.now.size }
         ensures others { self.new ≡ record self.old { device = self.new.device } }
-        ensures sound { IsConsistentHost P.known self.new }
-        ensures hand { HasInHand P.known self.new.device }
-        ensures rest { P.rest self.new.device.port ≡ P.rest self.old.device.port }
-        ensures told { IfSome (state_of P.known self.old.device) (λ d. state_of P.known self.new.device ≡ Some (collected d)) }
-        ensures told_value { IfSome (state_of P.known self.old.device) (λ d. result ≡ number_at (device_byte (collected d)) a.now.offset a.now.size) }
+        ensures consistent { IsConsistentHost P.port_view self.new }
+        ensures claimed_number { HasClaimedNumber P.port_view self.new.device }
+        ensures rest_unchanged { P.rest self.new.device.port ≡ P.rest self.old.device.port }
+        ensures exact { IfSome (state_of P.port_view self.old.device) (λ d. state_of P.port_view self.new.device ≡ Some (collected d)) }
+        ensures exact_value { IfSome (state_of P.port_view self.old.device) (λ d. result ≡ little_endian_at (device_byte (collected d)) a.now.offset a.now.size) }
     {
         self.parts.read(a)
     }
@@ -252,13 +253,13 @@ impl<P: Port> Host<P> {
         requires runs { is_running self.old.stage ≡ true }
         requires writes { IsSome a.now.write }
 
-        ensures writes { Writes P.known self.old.device a.now self.new.device }
-        ensures worker { KeepsWorker (P.known self.old.device.port) (P.known self.new.device.port) }
+        ensures writes { Writes P.port_view self.old.device a.now self.new.device }
+        ensures worker { KeepsWorker (P.port_view self.old.device.port) (P.port_view self.new.device.port) }
         ensures others { self.new ≡ record self.old { device = self.new.device } }
-        ensures sound { IsConsistentHost P.known self.new }
-        ensures hand { HasInHand P.known self.new.device }
-        ensures rest { P.rest self.new.device.port ≡ P.rest self.old.device.port }
-        ensures told { IfSome (state_of P.known self.old.device) (λ d. state_of P.known self.new.device ≡ Some (written (collected d) a.now)) }
+        ensures consistent { IsConsistentHost P.port_view self.new }
+        ensures claimed_number { HasClaimedNumber P.port_view self.new.device }
+        ensures rest_unchanged { P.rest self.new.device.port ≡ P.rest self.old.device.port }
+        ensures exact { IfSome (state_of P.port_view self.old.device) (λ d. state_of P.port_view self.new.device ≡ Some (written (collected d) a.now)) }
     {
         self.parts.write(a);
     }
@@ -267,15 +268,15 @@ impl<P: Port> Host<P> {
     pub fn reset(&mut self) -> Result<(), NotYet>
         requires runs { is_running self.old.stage ≡ true }
 
-        ensures resets { Resets P.known self.old.device result self.new.device }
-        ensures worker { KeepsWorker (P.known self.old.device.port) (P.known self.new.device.port) }
+        ensures resets { Resets P.port_view self.old.device result self.new.device }
+        ensures worker { KeepsWorker (P.port_view self.old.device.port) (P.port_view self.new.device.port) }
         ensures lost { self.old.device.regs.phase ≡ Phase.Lost → (result ≡ Ok tt) × (self.new ≡ self.old) }
         ensures others { self.new ≡ record self.old { device = self.new.device } }
-        ensures sound { IsConsistentHost P.known self.new }
-        ensures hand { HasInHand P.known self.new.device }
-        ensures rest { P.rest self.new.device.port ≡ P.rest self.old.device.port }
-        ensures told { IfSome (state_of P.known self.old.device) (λ d. state_of P.known self.new.device ≡ Some (after_reset d)) }
-        ensures told_result { IfSome (state_of P.known self.old.device) (λ d. result ≡ reset_reply d) }
+        ensures consistent { IsConsistentHost P.port_view self.new }
+        ensures claimed_number { HasClaimedNumber P.port_view self.new.device }
+        ensures rest_unchanged { P.rest self.new.device.port ≡ P.rest self.old.device.port }
+        ensures exact { IfSome (state_of P.port_view self.old.device) (λ d. state_of P.port_view self.new.device ≡ Some (after_reset d)) }
+        ensures exact_result { IfSome (state_of P.port_view self.old.device) (λ d. result ≡ reset_reply d) }
     {
         self.parts.reset()
     }
@@ -283,12 +284,12 @@ impl<P: Port> Host<P> {
     /// The device is lost from here on, as by [`Device::fail`].
     pub fn fail(&mut self)
         requires runs { is_running self.old.stage ≡ true }
-        requires free { (P.known self.old.device.port).is_free ≡ true }
+        requires free { (P.port_view self.old.device.port).is_free ≡ true }
 
         ensures failed { self.new ≡ record self.old { device = record self.old.device { regs = record self.old.device.regs { phase = Phase.Lost } } } }
-        ensures sound { IsConsistentHost P.known self.new }
-        ensures hand { HasInHand P.known self.new.device }
-        ensures told { IfSome (state_of P.known self.old.device) (λ d. state_of P.known self.new.device ≡ Some (failed d)) }
+        ensures consistent { IsConsistentHost P.port_view self.new }
+        ensures claimed_number { HasClaimedNumber P.port_view self.new.device }
+        ensures exact { IfSome (state_of P.port_view self.old.device) (λ d. state_of P.port_view self.new.device ≡ Some (failed d)) }
     {
         self.parts.fail();
     }
@@ -296,7 +297,7 @@ impl<P: Port> Host<P> {
     /// The device as it is, held at every side but `Running`.
     pub fn into_device(self) -> Device<P>
         ensures device { result ≡ self.device }
-        ensures sound { IsSound P.known result }
+        ensures consistent { IsConsistentDevice P.port_view result }
     {
         let Host { parts } = self;
         parts.into_device()

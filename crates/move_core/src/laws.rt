@@ -20,8 +20,8 @@ use ctrl_client::Wires;
 /// An offer that is refused leaves the host as before, but for an answer that was collected from its port. An offer that was
 /// made and taken back leaves it so too, but for the greatest epoch seen.
 pub fn offers_are_undone<P: Port, W: Wires>()
-    ensures refused { (h new : HostModel P) (w v : WiresView W.Plan) (f : OfferFault) → IsConsistentHost P.known h → is_running h.stage ≡ true → Offers P.known h w (Err f) v new → IsAsBefore P.known h new }
-    ensures given_up { (h mid new : HostModel P) (w v : WiresView W.Plan) (m a : Message) → IsConsistentHost P.known h → Offers P.known h w (Ok m) v mid → GivesUp P.known mid (Some a) new → IsAsBeforeButTop P.known h new }
+    ensures refused { (h new : HostModel P) (w v : WiresView W.Schedule) (f : OfferFault) → IsConsistentHost P.port_view h → is_running h.stage ≡ true → Offers P.port_view h w (Err f) v new → IsAsBefore P.port_view h new }
+    ensures given_up { (h mid new : HostModel P) (w v : WiresView W.Schedule) (m a : Message) → IsConsistentHost P.port_view h → Offers P.port_view h w (Ok m) v mid → GivesUp P.port_view mid (Some a) new → IsAsBeforeButTop P.port_view h new }
 {
     stopped_devices_go_on::<P>();
 }
@@ -41,6 +41,6 @@ pub fn repeated_messages_are_ignored<P: Port>()
 /// such deliveries leaves the host as [`offers_are_undone`] says.
 #[tactic(auto, using(crate::proofs::Staying::still_offers))]
 pub fn open_offers_change_nothing<P: Port, W: Wires>()
-    ensures unchanged { (h new : HostModel P) (m : Message) (w v : WiresView W.Plan) (answer : Delivered) (e f : ℕ) → side_of h.stage ≡ side.Offering e → side_of new.stage ≡ side.Offering f
-        → Follows P.known (delivered h m) w v answer new → new ≡ h }
+    ensures unchanged { (h new : HostModel P) (m : Message) (w v : WiresView W.Schedule) (answer : Delivered) (e f : ℕ) → side_of h.stage ≡ side.Offering e → side_of new.stage ≡ side.Offering f
+        → Follows P.port_view (delivered h m) w v answer new → new ≡ h }
 {}

@@ -1,7 +1,7 @@
 //! The calls of a host by which a move begins, ends early, or goes on after a lost message.
 ghost use Rattle.std.specs.Prelude.{◌≡◌, ◌≢◌, ◌+◌, ◌<◌, ◌≤◌, true, false, Ok, IfOk, IfErr};
 ghost use Rattle.crb_port.specs.Calls.{KeepsWorker};
-ghost use Rattle.crb_machine.specs.Over.{IsSound, Stops};
+ghost use Rattle.crb_machine.specs.Over.{IsConsistentDevice, Stops};
 ghost use Rattle.move_core.specs.Requests.{wires_view};
 ghost use Rattle.move_core.specs.Parts.{model_of};
 ghost use Rattle.move_core.specs.Hosts.{IsConsistentHost};
@@ -20,9 +20,9 @@ impl<P: Port> HostParts<P> {
     // The offer of a running host whose device was stopped. The device stays held.
     fn offer_held<W: Wires>(&mut self, wires: &mut W) -> Result<Message, OfferFault>
         requires held { self.old.device.held ≡ true }
-        requires sound { IsSound P.known self.old.device }
-        ensures offers { let w = wires_view W.fails W.later (W.link wires.old) (W.plan wires.old) (W.faults wires.old) (W.traffic wires.old) in
-            let v = wires_view W.fails W.later (W.link wires.new) (W.plan wires.new) (W.faults wires.new) (W.traffic wires.new) in
+        requires consistent { IsConsistentDevice P.port_view self.old.device }
+        ensures offers { let w = wires_view W.fails W.later (W.link wires.old) (W.schedule wires.old) (W.faults wires.old) (W.traffic wires.old) in
+            let v = wires_view W.fails W.later (W.link wires.new) (W.schedule wires.new) (W.faults wires.new) (W.traffic wires.new) in
             OffersHeld (model_of self.old) w result v (model_of self.new) }
         ensures name { self.new.name ≡ self.old.name }
         ensures top { self.old.top ≤ self.new.top }
@@ -48,13 +48,13 @@ impl<P: Port> HostParts<P> {
 
     /// As [`Host::offer`](crate::Host::offer).
     pub fn offer<W: Wires>(&mut self, wires: &mut W) -> Result<Message, OfferFault>
-        requires sound { IsConsistentHost P.known (model_of self.old) }
-        ensures offers { let w = wires_view W.fails W.later (W.link wires.old) (W.plan wires.old) (W.faults wires.old) (W.traffic wires.old) in
-            let v = wires_view W.fails W.later (W.link wires.new) (W.plan wires.new) (W.faults wires.new) (W.traffic wires.new) in
-            Offers P.known (model_of self.old) w result v (model_of self.new) }
-        ensures sound { IsConsistentHost P.known (model_of self.new) }
-        ensures worker { KeepsWorker (P.known self.old.device.port) (P.known self.new.device.port) }
-        ensures rest { P.rest self.new.device.port ≡ P.rest self.old.device.port }
+        requires consistent { IsConsistentHost P.port_view (model_of self.old) }
+        ensures offers { let w = wires_view W.fails W.later (W.link wires.old) (W.schedule wires.old) (W.faults wires.old) (W.traffic wires.old) in
+            let v = wires_view W.fails W.later (W.link wires.new) (W.schedule wires.new) (W.faults wires.new) (W.traffic wires.new) in
+            Offers P.port_view (model_of self.old) w result v (model_of self.new) }
+        ensures consistent { IsConsistentHost P.port_view (model_of self.new) }
+        ensures worker { KeepsWorker (P.port_view self.old.device.port) (P.port_view self.new.device.port) }
+        ensures rest_unchanged { P.rest self.new.device.port ≡ P.rest self.old.device.port }
         ensures name { self.new.name ≡ self.old.name }
         ensures top { self.old.top ≤ self.new.top }
     {
@@ -75,11 +75,11 @@ impl<P: Port> HostParts<P> {
 
     /// As [`Host::give_up`](crate::Host::give_up).
     pub fn give_up(&mut self) -> Option<Message>
-        requires sound { IsConsistentHost P.known (model_of self.old) }
-        ensures gives_up { GivesUp P.known (model_of self.old) result (model_of self.new) }
-        ensures sound { IsConsistentHost P.known (model_of self.new) }
-        ensures worker { KeepsWorker (P.known self.old.device.port) (P.known self.new.device.port) }
-        ensures rest { P.rest self.new.device.port ≡ P.rest self.old.device.port }
+        requires consistent { IsConsistentHost P.port_view (model_of self.old) }
+        ensures gives_up { GivesUp P.port_view (model_of self.old) result (model_of self.new) }
+        ensures consistent { IsConsistentHost P.port_view (model_of self.new) }
+        ensures worker { KeepsWorker (P.port_view self.old.device.port) (P.port_view self.new.device.port) }
+        ensures rest_unchanged { P.rest self.new.device.port ≡ P.rest self.old.device.port }
         ensures name { self.new.name ≡ self.old.name }
         ensures top { self.old.top ≤ self.new.top }
     {

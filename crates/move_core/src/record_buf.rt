@@ -2,7 +2,7 @@
 ghost use Rattle.std.specs.Prelude.{◌≡◌, ◌≢◌, ◌+◌, ◌≤◌, ◌++◌, [], length, take, true, IfOk};
 ghost use Rattle.crb_regs.specs.declared.phase.Phase.TheVariants.{Lost};
 ghost use Rattle.crb_machine.specs.Values.{held_values};
-ghost use Rattle.device_record.specs.Records.{record_text, IsRecord};
+ghost use Rattle.device_record.specs.Records.{encode_record, IsRecord};
 
 use crb_machine::Device;
 use crb_port::Port;
@@ -30,7 +30,7 @@ impl Model for RecordBuf {
 // Writes bytes after the first `at` ones.
 fn put_at(into: &mut [u8], at: usize, bytes: &[u8])
     requires room { at + length bytes.now ≤ length into.old }
-    ensures front { take (at + length bytes.now) into.new ≡ take at into.old ++ bytes.now }
+    ensures prefix { take (at + length bytes.now) into.new ≡ take at into.old ++ bytes.now }
 {
     into[at..at + bytes.len()].copy_from_slice(bytes);
 }
@@ -72,7 +72,7 @@ impl RecordBuf {
     pub fn write<P: Port>(&mut self, device: &Device<P>) -> u32
         requires held { device.now.held ≡ true }
         requires working { device.now.regs.phase ≢ Lost }
-        ensures written { self.new ≡ record_text (held_values device.now) }
+        ensures written { self.new ≡ encode_record (held_values device.now) }
         ensures is_record { IsRecord self.new (held_values device.now) }
         ensures size { length self.new ≡ result }
         ensures most { result ≤ 3991 }

@@ -14,13 +14,13 @@ use device_record::{RECORD_ROOM, write_record};
 impl<P: Port> HostParts<P> {
     /// As [`Host::write_record`](crate::Host::write_record).
     pub fn write_record(&mut self, into: &mut [u8; RECORD_ROOM]) -> Result<usize, OfferFault>
-        requires sound { IsConsistentHost P.known (model_of self.old) }
-        ensures records { Records P.known (model_of self.old) result into.new (model_of self.new) }
+        requires consistent { IsConsistentHost P.port_view (model_of self.old) }
+        ensures records { Records P.port_view (model_of self.old) result into.new (model_of self.new) }
         ensures within { IfOk result (λ count. count ≤ 3991) }
         ensures untouched { OnErr result (into.new ≡ into.old) }
-        ensures sound { IsConsistentHost P.known (model_of self.new) }
-        ensures worker { KeepsWorker (P.known self.old.device.port) (P.known self.new.device.port) }
-        ensures rest { P.rest self.new.device.port ≡ P.rest self.old.device.port }
+        ensures consistent { IsConsistentHost P.port_view (model_of self.new) }
+        ensures worker { KeepsWorker (P.port_view self.old.device.port) (P.port_view self.new.device.port) }
+        ensures rest_unchanged { P.rest self.new.device.port ≡ P.rest self.old.device.port }
         ensures others { model_of self.new ≡ record (model_of self.old) { device = self.new.device } }
     {
         if !self.stage.is_running() {

@@ -5,9 +5,9 @@ ghost use Rattle.move_core.specs.Requests.{wires_view};
 ghost use Rattle.move_core.specs.Sides.{is_active, total_of, first_bad};
 ghost use Rattle.move_core.specs.Parts.{model_of};
 ghost use Rattle.move_core.specs.Hosts.{IsConsistentHost, AreTotals, Decodes};
-ghost use Rattle.vt_base.specs.declared.words.Malformed.{Malformed};
+ghost use Rattle.vt_base.specs.declared.types.Malformed.{Malformed};
 ghost use Rattle.crb_machine.specs.Values.{DeviceValues};
-ghost use Rattle.crb_machine.specs.Over.{IsSound};
+ghost use Rattle.crb_machine.specs.Over.{IsConsistentDevice};
 ghost use Rattle.crb_port.specs.Calls.{KeepsWorker};
 ghost use Rattle.std.specs.Prelude.{Result};
 ghost use Rattle.move_core.specs.Table.{on_offer, takes_offer, begins, on_need, gives, gives_record, passes_on, on_piece, takes_piece, took, reaches, goes_to, wants, loads, on_prepared, on_commit, on_abort, on_refuse, on_message, delivered};
@@ -19,7 +19,8 @@ use crate::names::{first_bad, is_next, is_same, part_after, total_of};
 use crate::parts::HostParts;
 use crate::stage::MoveStage;
 use crb_port::Port;
-use ctrl_client::{ClientFault, TOTAL_PLACE, Wires};
+use ctrl_client::{ClientFault, Wires};
+use ctrl_model::TOTAL_PLACE;
 use device_record::load_record;
 use move_codec::{Body, Message, Part, Reason, messages_are_in_range};
 use std::alloc::{AllocError, Global};
@@ -39,7 +40,7 @@ impl<P: Port> HostParts<P> {
 
     // An Offer, by whether the emulator was switched off: the record is asked for from its start.
     fn begin(&mut self, epoch: u64, totals: [u32; 4], off: Result<(), ClientFault>) -> Delivered
-        ensures made { EndsIn P.known (begins (model_of self.old) epoch totals off) result (model_of self.new) }
+        ensures made { EndsIn P.port_view (begins (model_of self.old) epoch totals off) result (model_of self.new) }
         ensures device { self.new.device ≡ self.old.device }
         ensures name { self.new.name ≡ self.old.name }
         ensures top { self.old.top ≤ self.new.top }
@@ -66,9 +67,9 @@ impl<P: Port> HostParts<P> {
 
     // An Offer to a host that neither runs nor offers.
     fn take_offer<W: Wires>(&mut self, epoch: u64, totals: &[u32; 4], wires: &mut W) -> Delivered
-        ensures row { let w = wires_view W.fails W.later (W.link wires.old) (W.plan wires.old) (W.faults wires.old) (W.traffic wires.old) in
-            let v = wires_view W.fails W.later (W.link wires.new) (W.plan wires.new) (W.faults wires.new) (W.traffic wires.new) in
-            Follows P.known (takes_offer (model_of self.old) epoch totals.now (first_bad totals.now)) w v result (model_of self.new) }
+        ensures row { let w = wires_view W.fails W.later (W.link wires.old) (W.schedule wires.old) (W.faults wires.old) (W.traffic wires.old) in
+            let v = wires_view W.fails W.later (W.link wires.new) (W.schedule wires.new) (W.faults wires.new) (W.traffic wires.new) in
+            Follows P.port_view (takes_offer (model_of self.old) epoch totals.now (first_bad totals.now)) w v result (model_of self.new) }
         ensures device { self.new.device ≡ self.old.device }
         ensures name { self.new.name ≡ self.old.name }
         ensures top { self.old.top ≤ self.new.top }
@@ -83,9 +84,9 @@ impl<P: Port> HostParts<P> {
 
     // An Offer: ignored unless its epoch is above all that were seen, and refused where the guest runs or is offered here.
     fn on_offer<W: Wires>(&mut self, epoch: u64, totals: &[u32; 4], wires: &mut W) -> Delivered
-        ensures row { let w = wires_view W.fails W.later (W.link wires.old) (W.plan wires.old) (W.faults wires.old) (W.traffic wires.old) in
-            let v = wires_view W.fails W.later (W.link wires.new) (W.plan wires.new) (W.faults wires.new) (W.traffic wires.new) in
-            Follows P.known (on_offer (model_of self.old) epoch totals.now) w v result (model_of self.new) }
+        ensures row { let w = wires_view W.fails W.later (W.link wires.old) (W.schedule wires.old) (W.faults wires.old) (W.traffic wires.old) in
+            let v = wires_view W.fails W.later (W.link wires.new) (W.schedule wires.new) (W.faults wires.new) (W.traffic wires.new) in
+            Follows P.port_view (on_offer (model_of self.old) epoch totals.now) w v result (model_of self.new) }
         ensures device { self.new.device ≡ self.old.device }
         ensures name { self.new.name ≡ self.old.name }
         ensures top { self.old.top ≤ self.new.top }
@@ -109,7 +110,7 @@ impl<P: Port> HostParts<P> {
         offset: u32,
         got: Result<Fetched, ClientFault>,
     ) -> Delivered
-        ensures made { EndsIn P.known (passes_on (model_of self.now) epoch total part offset got) result (model_of self.now) }
+        ensures made { EndsIn P.port_view (passes_on (model_of self.now) epoch total part offset got) result (model_of self.now) }
     {
         match got {
             Ok(piece) => {
@@ -133,7 +134,7 @@ impl<P: Port> HostParts<P> {
     // A Need for the record: the bytes from this offset on, as many as a piece has.
     fn give_record(&self, alloc: Global, epoch: u64, offset: u32) -> Result<Delivered, AllocError>
         requires within { offset ≤ length self.now.record_bytes }
-        ensures made { IfOk result (λ answer. EndsIn P.known (gives_record (model_of self.now) epoch offset) answer (model_of self.now)) }
+        ensures made { IfOk result (λ answer. EndsIn P.port_view (gives_record (model_of self.now) epoch offset) answer (model_of self.now)) }
     {
         let bytes = self.record_bytes.bytes();
         let left = &bytes[offset as usize..];
@@ -160,9 +161,9 @@ impl<P: Port> HostParts<P> {
         wires: &mut W,
     ) -> Result<Delivered, AllocError>
         requires in_record { part ≡ Part.Record → offset ≤ length self.now.record_bytes }
-        ensures row { IfOk result (λ answer. let w = wires_view W.fails W.later (W.link wires.old) (W.plan wires.old) (W.faults wires.old) (W.traffic wires.old) in
-            let v = wires_view W.fails W.later (W.link wires.new) (W.plan wires.new) (W.faults wires.new) (W.traffic wires.new) in
-            Follows P.known (gives (model_of self.now) epoch total part offset) w v answer (model_of self.now)) }
+        ensures row { IfOk result (λ answer. let w = wires_view W.fails W.later (W.link wires.old) (W.schedule wires.old) (W.faults wires.old) (W.traffic wires.old) in
+            let v = wires_view W.fails W.later (W.link wires.new) (W.schedule wires.new) (W.faults wires.new) (W.traffic wires.new) in
+            Follows P.port_view (gives (model_of self.now) epoch total part offset) w v answer (model_of self.now)) }
         ensures err { OnErr result (wires.new ≡ wires.old) }
     {
         match part {
@@ -191,10 +192,10 @@ impl<P: Port> HostParts<P> {
         offset: u32,
         wires: &mut W,
     ) -> Result<Delivered, AllocError>
-        requires sound { IsConsistentHost P.known (model_of self.now) }
-        ensures row { IfOk result (λ answer. let w = wires_view W.fails W.later (W.link wires.old) (W.plan wires.old) (W.faults wires.old) (W.traffic wires.old) in
-            let v = wires_view W.fails W.later (W.link wires.new) (W.plan wires.new) (W.faults wires.new) (W.traffic wires.new) in
-            Follows P.known (on_need (model_of self.now) self.now.stage epoch part offset) w v answer (model_of self.now)) }
+        requires consistent { IsConsistentHost P.port_view (model_of self.now) }
+        ensures row { IfOk result (λ answer. let w = wires_view W.fails W.later (W.link wires.old) (W.schedule wires.old) (W.faults wires.old) (W.traffic wires.old) in
+            let v = wires_view W.fails W.later (W.link wires.new) (W.schedule wires.new) (W.faults wires.new) (W.traffic wires.new) in
+            Follows P.port_view (on_need (model_of self.now) self.now.stage epoch part offset) w v answer (model_of self.now)) }
         ensures err { OnErr result (wires.new ≡ wires.old) }
     {
         let MoveStage::Offering { epoch: e, totals } = self.stage else {
@@ -209,7 +210,7 @@ impl<P: Port> HostParts<P> {
 
     // The next bytes of a part are asked for.
     fn want(&mut self, epoch: u64, totals: [u32; 4], part: Part, place: u32) -> Delivered
-        ensures made { EndsIn P.known (wants (model_of self.old) epoch totals part place) result (model_of self.new) }
+        ensures made { EndsIn P.port_view (wants (model_of self.old) epoch totals part place) result (model_of self.new) }
         ensures device { self.new.device ≡ self.old.device }
         ensures name { self.new.name ≡ self.old.name }
         ensures top { self.old.top ≤ self.new.top }
@@ -231,7 +232,7 @@ impl<P: Port> HostParts<P> {
 
     // All bytes of a part have come: the next part is asked for, or the host is prepared.
     fn go_to(&mut self, epoch: u64, totals: [u32; 4], next: Option<Part>) -> Delivered
-        ensures made { EndsIn P.known (goes_to (model_of self.old) epoch totals next) result (model_of self.new) }
+        ensures made { EndsIn P.port_view (goes_to (model_of self.old) epoch totals next) result (model_of self.new) }
         ensures device { self.new.device ≡ self.old.device }
         ensures name { self.new.name ≡ self.old.name }
         ensures top { self.old.top ≤ self.new.top }
@@ -247,7 +248,7 @@ impl<P: Port> HostParts<P> {
 
     // `place` bytes of a part have come.
     fn reach(&mut self, epoch: u64, totals: [u32; 4], part: Part, place: u32) -> Delivered
-        ensures made { EndsIn P.known (reaches (model_of self.old) epoch totals part place) result (model_of self.new) }
+        ensures made { EndsIn P.port_view (reaches (model_of self.old) epoch totals part place) result (model_of self.new) }
         ensures device { self.new.device ≡ self.old.device }
         ensures name { self.new.name ≡ self.old.name }
         ensures top { self.old.top ≤ self.new.top }
@@ -267,7 +268,7 @@ impl<P: Port> HostParts<P> {
         place: u32,
         given: Result<(), ClientFault>,
     ) -> Delivered
-        ensures made { EndsIn P.known (took (model_of self.old) epoch totals part place given) result (model_of self.new) }
+        ensures made { EndsIn P.port_view (took (model_of self.old) epoch totals part place given) result (model_of self.new) }
         ensures device { self.new.device ≡ self.old.device }
         ensures name { self.new.name ≡ self.old.name }
         ensures top { self.old.top ≤ self.new.top }
@@ -284,11 +285,11 @@ impl<P: Port> HostParts<P> {
     // The device gets the values of the record, or the bytes are none.
     fn load(&mut self, epoch: u64, totals: [u32; 4]) -> Delivered
         requires held { self.old.device.held ≡ true }
-        requires sound { IsSound P.known self.old.device }
-        ensures row { (r : Result DeviceValues Malformed) × Decodes self.old.record_bytes r × EndsIn P.known (loads (model_of self.old) epoch totals self.old.record_bytes r) result (model_of self.new) }
-        ensures sound { IsSound P.known self.new.device }
-        ensures worker { KeepsWorker (P.known self.old.device.port) (P.known self.new.device.port) }
-        ensures rest { P.rest self.new.device.port ≡ P.rest self.old.device.port }
+        requires consistent { IsConsistentDevice P.port_view self.old.device }
+        ensures row { (r : Result DeviceValues Malformed) × Decodes self.old.record_bytes r × EndsIn P.port_view (loads (model_of self.old) epoch totals self.old.record_bytes r) result (model_of self.new) }
+        ensures consistent { IsConsistentDevice P.port_view self.new.device }
+        ensures worker { KeepsWorker (P.port_view self.old.device.port) (P.port_view self.new.device.port) }
+        ensures rest_unchanged { P.rest self.new.device.port ≡ P.rest self.old.device.port }
         ensures name { self.new.name ≡ self.old.name }
         ensures top { self.old.top ≤ self.new.top }
     {
@@ -304,12 +305,12 @@ impl<P: Port> HostParts<P> {
     // The next Piece of the record.
     fn take_record(&mut self, epoch: u64, totals: [u32; 4], place: u32, bytes: &[u8]) -> Delivered
         requires held { self.old.device.held ≡ true }
-        requires sound { IsSound P.known self.old.device }
+        requires consistent { IsConsistentDevice P.port_view self.old.device }
         requires room { length self.old.record_bytes + length bytes.now ≤ 4096 }
-        ensures row { FollowsAlone P.known (takes_piece (model_of self.old) epoch totals Part.Record place bytes.now) result (model_of self.new) }
-        ensures sound { IsSound P.known self.new.device }
-        ensures worker { KeepsWorker (P.known self.old.device.port) (P.known self.new.device.port) }
-        ensures rest { P.rest self.new.device.port ≡ P.rest self.old.device.port }
+        ensures row { FollowsAlone P.port_view (takes_piece (model_of self.old) epoch totals Part.Record place bytes.now) result (model_of self.new) }
+        ensures consistent { IsConsistentDevice P.port_view self.new.device }
+        ensures worker { KeepsWorker (P.port_view self.old.device.port) (P.port_view self.new.device.port) }
+        ensures rest_unchanged { P.rest self.new.device.port ≡ P.rest self.old.device.port }
         ensures name { self.new.name ≡ self.old.name }
         ensures top { self.old.top ≤ self.new.top }
     {
@@ -331,9 +332,9 @@ impl<P: Port> HostParts<P> {
     ) -> Delivered
         requires some { 0 < length bytes.now }
         requires most { length bytes.now ≤ 4096 }
-        ensures row { let w = wires_view W.fails W.later (W.link wires.old) (W.plan wires.old) (W.faults wires.old) (W.traffic wires.old) in
-            let v = wires_view W.fails W.later (W.link wires.new) (W.plan wires.new) (W.faults wires.new) (W.traffic wires.new) in
-            Follows P.known (takes_piece (model_of self.old) epoch totals Part.Saved place bytes.now) w v result (model_of self.new) }
+        ensures row { let w = wires_view W.fails W.later (W.link wires.old) (W.schedule wires.old) (W.faults wires.old) (W.traffic wires.old) in
+            let v = wires_view W.fails W.later (W.link wires.new) (W.schedule wires.new) (W.faults wires.new) (W.traffic wires.new) in
+            Follows P.port_view (takes_piece (model_of self.old) epoch totals Part.Saved place bytes.now) w v result (model_of self.new) }
         ensures device { self.new.device ≡ self.old.device }
         ensures name { self.new.name ≡ self.old.name }
         ensures top { self.old.top ≤ self.new.top }
@@ -357,16 +358,16 @@ impl<P: Port> HostParts<P> {
         wires: &mut W,
     ) -> Delivered
         requires held { self.old.device.held ≡ true }
-        requires sound { IsSound P.known self.old.device }
+        requires consistent { IsConsistentDevice P.port_view self.old.device }
         requires some { 0 < length bytes.now }
         requires most { length bytes.now ≤ 4096 }
         requires room { part ≡ Part.Record → length self.old.record_bytes + length bytes.now ≤ 4096 }
-        ensures row { let w = wires_view W.fails W.later (W.link wires.old) (W.plan wires.old) (W.faults wires.old) (W.traffic wires.old) in
-            let v = wires_view W.fails W.later (W.link wires.new) (W.plan wires.new) (W.faults wires.new) (W.traffic wires.new) in
-            Follows P.known (takes_piece (model_of self.old) epoch totals part place bytes.now) w v result (model_of self.new) }
-        ensures sound { IsSound P.known self.new.device }
-        ensures worker { KeepsWorker (P.known self.old.device.port) (P.known self.new.device.port) }
-        ensures rest { P.rest self.new.device.port ≡ P.rest self.old.device.port }
+        ensures row { let w = wires_view W.fails W.later (W.link wires.old) (W.schedule wires.old) (W.faults wires.old) (W.traffic wires.old) in
+            let v = wires_view W.fails W.later (W.link wires.new) (W.schedule wires.new) (W.faults wires.new) (W.traffic wires.new) in
+            Follows P.port_view (takes_piece (model_of self.old) epoch totals part place bytes.now) w v result (model_of self.new) }
+        ensures consistent { IsConsistentDevice P.port_view self.new.device }
+        ensures worker { KeepsWorker (P.port_view self.old.device.port) (P.port_view self.new.device.port) }
+        ensures rest_unchanged { P.rest self.new.device.port ≡ P.rest self.old.device.port }
         ensures name { self.new.name ≡ self.old.name }
         ensures top { self.old.top ≤ self.new.top }
     {
@@ -393,14 +394,14 @@ impl<P: Port> HostParts<P> {
         bytes: &[u8],
         wires: &mut W,
     ) -> Delivered
-        requires sound { IsConsistentHost P.known (model_of self.old) }
+        requires consistent { IsConsistentHost P.port_view (model_of self.old) }
         requires some { 0 < length bytes.now }
-        ensures row { let w = wires_view W.fails W.later (W.link wires.old) (W.plan wires.old) (W.faults wires.old) (W.traffic wires.old) in
-            let v = wires_view W.fails W.later (W.link wires.new) (W.plan wires.new) (W.faults wires.new) (W.traffic wires.new) in
-            Follows P.known (on_piece (model_of self.old) self.old.stage epoch part offset bytes.now) w v result (model_of self.new) }
-        ensures sound { IsSound P.known self.new.device }
-        ensures worker { KeepsWorker (P.known self.old.device.port) (P.known self.new.device.port) }
-        ensures rest { P.rest self.new.device.port ≡ P.rest self.old.device.port }
+        ensures row { let w = wires_view W.fails W.later (W.link wires.old) (W.schedule wires.old) (W.faults wires.old) (W.traffic wires.old) in
+            let v = wires_view W.fails W.later (W.link wires.new) (W.schedule wires.new) (W.faults wires.new) (W.traffic wires.new) in
+            Follows P.port_view (on_piece (model_of self.old) self.old.stage epoch part offset bytes.now) w v result (model_of self.new) }
+        ensures consistent { IsConsistentDevice P.port_view self.new.device }
+        ensures worker { KeepsWorker (P.port_view self.old.device.port) (P.port_view self.new.device.port) }
+        ensures rest_unchanged { P.rest self.new.device.port ≡ P.rest self.old.device.port }
         ensures name { self.new.name ≡ self.old.name }
         ensures top { self.old.top ≤ self.new.top }
     {
@@ -429,11 +430,11 @@ impl<P: Port> HostParts<P> {
     /// The guest goes on here.
     pub fn resume(&mut self)
         requires held { self.old.device.held ≡ true }
-        ensures resumes { Resumes P.known (record (model_of self.old) { stage = MoveStage.Running; record_bytes = [] }) (model_of self.new) }
-        ensures sound { IsSound P.known self.new.device }
+        ensures resumes { Resumes P.port_view (record (model_of self.old) { stage = MoveStage.Running; record_bytes = [] }) (model_of self.new) }
+        ensures consistent { IsConsistentDevice P.port_view self.new.device }
         ensures runs { self.new.device.held ≡ false }
-        ensures worker { KeepsWorker (P.known self.old.device.port) (P.known self.new.device.port) }
-        ensures rest { P.rest self.new.device.port ≡ P.rest self.old.device.port }
+        ensures worker { KeepsWorker (P.port_view self.old.device.port) (P.port_view self.new.device.port) }
+        ensures rest_unchanged { P.rest self.new.device.port ≡ P.rest self.old.device.port }
         ensures name { self.new.name ≡ self.old.name }
         ensures top { self.old.top ≤ self.new.top }
     {
@@ -444,7 +445,7 @@ impl<P: Port> HostParts<P> {
 
     // Prepared: the host lets go, or says again that it has.
     fn on_prepared(&mut self, epoch: u64) -> Delivered
-        ensures row { FollowsAlone P.known (on_prepared (model_of self.old) self.old.stage epoch) result (model_of self.new) }
+        ensures row { FollowsAlone P.port_view (on_prepared (model_of self.old) self.old.stage epoch) result (model_of self.new) }
         ensures device { self.new.device ≡ self.old.device }
         ensures name { self.new.name ≡ self.old.name }
         ensures top { self.old.top ≤ self.new.top }
@@ -464,11 +465,11 @@ impl<P: Port> HostParts<P> {
 
     // Commit: a prepared host runs.
     fn on_commit(&mut self, epoch: u64) -> Delivered
-        requires sound { IsConsistentHost P.known (model_of self.old) }
-        ensures row { FollowsAlone P.known (on_commit (model_of self.old) self.old.stage epoch) result (model_of self.new) }
-        ensures sound { IsSound P.known self.new.device }
-        ensures worker { KeepsWorker (P.known self.old.device.port) (P.known self.new.device.port) }
-        ensures rest { P.rest self.new.device.port ≡ P.rest self.old.device.port }
+        requires consistent { IsConsistentHost P.port_view (model_of self.old) }
+        ensures row { FollowsAlone P.port_view (on_commit (model_of self.old) self.old.stage epoch) result (model_of self.new) }
+        ensures consistent { IsConsistentDevice P.port_view self.new.device }
+        ensures worker { KeepsWorker (P.port_view self.old.device.port) (P.port_view self.new.device.port) }
+        ensures rest_unchanged { P.rest self.new.device.port ≡ P.rest self.old.device.port }
         ensures name { self.new.name ≡ self.old.name }
         ensures top { self.old.top ≤ self.new.top }
     {
@@ -483,7 +484,7 @@ impl<P: Port> HostParts<P> {
 
     // Abort: a host that takes the offer, or has taken it, is empty.
     fn on_abort(&mut self, epoch: u64) -> Delivered
-        ensures row { FollowsAlone P.known (on_abort (model_of self.old) self.old.stage epoch) result (model_of self.new) }
+        ensures row { FollowsAlone P.port_view (on_abort (model_of self.old) self.old.stage epoch) result (model_of self.new) }
         ensures device { self.new.device ≡ self.old.device }
         ensures name { self.new.name ≡ self.old.name }
         ensures top { self.old.top ≤ self.new.top }
@@ -500,11 +501,11 @@ impl<P: Port> HostParts<P> {
 
     // Refuse: the offer is over, and the guest goes on here.
     fn on_refuse(&mut self, epoch: u64) -> Delivered
-        requires sound { IsConsistentHost P.known (model_of self.old) }
-        ensures row { FollowsAlone P.known (on_refuse (model_of self.old) self.old.stage epoch) result (model_of self.new) }
-        ensures sound { IsSound P.known self.new.device }
-        ensures worker { KeepsWorker (P.known self.old.device.port) (P.known self.new.device.port) }
-        ensures rest { P.rest self.new.device.port ≡ P.rest self.old.device.port }
+        requires consistent { IsConsistentHost P.port_view (model_of self.old) }
+        ensures row { FollowsAlone P.port_view (on_refuse (model_of self.old) self.old.stage epoch) result (model_of self.new) }
+        ensures consistent { IsConsistentDevice P.port_view self.new.device }
+        ensures worker { KeepsWorker (P.port_view self.old.device.port) (P.port_view self.new.device.port) }
+        ensures rest_unchanged { P.rest self.new.device.port ≡ P.rest self.old.device.port }
         ensures name { self.new.name ≡ self.old.name }
         ensures top { self.old.top ≤ self.new.top }
     {
@@ -525,17 +526,17 @@ impl<P: Port> HostParts<P> {
         body: &Body,
         wires: &mut W,
     ) -> Result<Delivered, AllocError>
-        requires sound { IsConsistentHost P.known (model_of self.old) }
+        requires consistent { IsConsistentHost P.port_view (model_of self.old) }
         requires bytes { HasBytes body.now }
-        ensures row { IfOk result (λ answer. let w = wires_view W.fails W.later (W.link wires.old) (W.plan wires.old) (W.faults wires.old) (W.traffic wires.old) in
-            let v = wires_view W.fails W.later (W.link wires.new) (W.plan wires.new) (W.faults wires.new) (W.traffic wires.new) in
-            Follows P.known (on_message (model_of self.old) epoch body.now) w v answer (model_of self.new)) }
-        ensures sound { IsSound P.known self.new.device }
+        ensures row { IfOk result (λ answer. let w = wires_view W.fails W.later (W.link wires.old) (W.schedule wires.old) (W.faults wires.old) (W.traffic wires.old) in
+            let v = wires_view W.fails W.later (W.link wires.new) (W.schedule wires.new) (W.faults wires.new) (W.traffic wires.new) in
+            Follows P.port_view (on_message (model_of self.old) epoch body.now) w v answer (model_of self.new)) }
+        ensures consistent { IsConsistentDevice P.port_view self.new.device }
         ensures need { OnErr result (IsNeed body.now) }
         ensures same { OnErr result (model_of self.new ≡ model_of self.old) }
         ensures untouched { OnErr result (wires.new ≡ wires.old) }
-        ensures worker { KeepsWorker (P.known self.old.device.port) (P.known self.new.device.port) }
-        ensures rest { P.rest self.new.device.port ≡ P.rest self.old.device.port }
+        ensures worker { KeepsWorker (P.port_view self.old.device.port) (P.port_view self.new.device.port) }
+        ensures rest_unchanged { P.rest self.new.device.port ≡ P.rest self.old.device.port }
         ensures name { self.new.name ≡ self.old.name }
         ensures top { self.old.top ≤ self.new.top }
     {
@@ -561,17 +562,17 @@ impl<P: Port> HostParts<P> {
         m: &Message,
         wires: &mut W,
     ) -> Result<Delivered, AllocError>
-        requires sound { IsConsistentHost P.known (model_of self.old) }
+        requires consistent { IsConsistentHost P.port_view (model_of self.old) }
         requires bytes { HasBytes m.now.body }
-        ensures row { IfOk result (λ answer. let w = wires_view W.fails W.later (W.link wires.old) (W.plan wires.old) (W.faults wires.old) (W.traffic wires.old) in
-            let v = wires_view W.fails W.later (W.link wires.new) (W.plan wires.new) (W.faults wires.new) (W.traffic wires.new) in
-            Follows P.known (delivered (model_of self.old) m.now) w v answer (model_of self.new)) }
-        ensures sound { IsConsistentHost P.known (model_of self.new) }
+        ensures row { IfOk result (λ answer. let w = wires_view W.fails W.later (W.link wires.old) (W.schedule wires.old) (W.faults wires.old) (W.traffic wires.old) in
+            let v = wires_view W.fails W.later (W.link wires.new) (W.schedule wires.new) (W.faults wires.new) (W.traffic wires.new) in
+            Follows P.port_view (delivered (model_of self.old) m.now) w v answer (model_of self.new)) }
+        ensures consistent { IsConsistentHost P.port_view (model_of self.new) }
         ensures need { OnErr result (IsNeed m.now.body) }
         ensures same { OnErr result (model_of self.new ≡ model_of self.old) }
         ensures untouched { OnErr result (wires.new ≡ wires.old) }
-        ensures worker { KeepsWorker (P.known self.old.device.port) (P.known self.new.device.port) }
-        ensures rest { P.rest self.new.device.port ≡ P.rest self.old.device.port }
+        ensures worker { KeepsWorker (P.port_view self.old.device.port) (P.port_view self.new.device.port) }
+        ensures rest_unchanged { P.rest self.new.device.port ≡ P.rest self.old.device.port }
         ensures name { self.new.name ≡ self.old.name }
         ensures top { self.old.top ≤ self.new.top }
     {

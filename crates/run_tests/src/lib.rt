@@ -5,4 +5,4 @@
 #[cfg(test)]
 mod moves;
 #[cfg(test)]
-mod runs;
+mod script_run_tests;

@@ -3,13 +3,12 @@ ghost use Rattle.std.specs.Prelude.{◌≤◌};
 
 use bulk_lines::BulkLines;
 use crb_port::PlainPort;
-use move_codec::HostName;
 use script_run::{End, run};
 use sha2::{Digest, Sha256};
 use std::alloc::{AllocError, Global};
 use std::process::Abort;
 use std::test::*;
-use vt_base::{Bytes, MemSink, MemSource};
+use vt_base::{Bytes, HostName, MemSink, MemSource};
 use vt_script::{DriveLine, print_response};
 use vt_world::{Pair, World};
 

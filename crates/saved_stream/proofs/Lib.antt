@@ -3,11 +3,11 @@ pub mod Asked
 pub mod Behind
 pub mod Ends
 pub mod Heads
-pub mod Known
+pub mod PartLaws
 pub mod Near
 pub mod Once
 pub mod Passed
-pub mod Told
+pub mod Decoding
 pub mod Whole
-pub mod Walked
-pub mod Marked
+pub mod HeadersRead
+pub mod MagicRead

@@ -5,19 +5,19 @@ use Rattle.std.specs.Int.{w16, w32, w64, from_be_bytes}
 use Rattle.std.proofs.lemmas.Bool.Decides.{nat_tests}
 use Rattle.std.proofs.lemmas.List.{length-drop}
 use Rattle.vt_base.specs.declared.grammar.Missing.{Missing}
-use Rattle.vt_base.specs.Layout.{Layout, Ends, Field, Spells, IsOpen, IsWithin, byte_then, long_then}
-use Rattle.vt_base.specs.Verdict.{judged}
-use Rattle.vt_base.specs.Refusing.{refuse, mark_then}
-use Rattle.vt_base.specs.declared.words.Why.{Why}
-use Rattle.vt_base.specs.declared.words.Why.TheVariants.{Magic, Version, Length, Value, Extra}
-use Rattle.vt_base.specs.declared.words.Malformed.{Malformed}
-use Rattle.vt_base.proofs.Layouts.{wants_within, spells_front}
-use Rattle.crb_machine.specs.Values.{DeviceValues, AreFit}
+use Rattle.vt_base.specs.Layout.{Layout, Ends, Field, Encodes, IsOpen, IsWithin, byte_then, long_then}
+use Rattle.vt_base.specs.Parsing.{parsed}
+use Rattle.vt_base.specs.Refusing.{refuse, magic_byte_then}
+use Rattle.vt_base.specs.declared.types.Why.{Why}
+use Rattle.vt_base.specs.declared.types.Why.TheVariants.{Magic, Version, Length, Value, Extra}
+use Rattle.vt_base.specs.declared.types.Malformed.{Malformed}
+use Rattle.vt_base.proofs.Layouts.{wants_within, encodes_prefix}
+use Rattle.crb_machine.specs.Values.{DeviceValues, AreValid}
 use Rattle.crb_regs.specs.Registers.{is_idle, is_executing}
 use Rattle.crb_regs.specs.declared.phase.Phase.{Phase}
 use Rattle.crb_regs.specs.declared.registers.Regs.{Regs}
 use Rattle.device_record.specs.declared.fields.Fields.{Fields}
-use Rattle.device_record.specs.Records.{flag_at, phase_at, fields_of, record_text, IsRecord}
+use Rattle.device_record.specs.Records.{flag_at, phase_at, fields_of, encode_record, IsRecord}
 use Rattle.device_record.specs.Layouts.{Ending, value_then, flag_then, ends_in_zero, content_then, count_then, job_then, registers_then, length_then, record_layout, IsRefused}
 
 -- each message is within so many bytes, and each refusal within 3991
@@ -28,12 +28,12 @@ IsNear (Field n next) room = (n ≤ room) × ((field : List ℕ) → IsNear (nex
 
 -- ---- what follows from it
 
-pub near_place : {V : Type 0} (layout : Layout (Result V Malformed)) (room : ℕ) (fault : Malformed) (bytes : List ℕ) → IsNear layout room → Spells layout (Err fault) bytes → fault.place ≤ 3991
+pub near_place : {V : Type 0} (layout : Layout (Result V Malformed)) (room : ℕ) (fault : Malformed) (bytes : List ℕ) → IsNear layout room → Encodes layout (Err fault) bytes → fault.place ≤ 3991
 near_place (Ends (Ok v)) room fault bytes near spelled = absurd cc
 near_place (Ends (Err f)) room fault bytes near spelled = let same : f ≡ fault = cc in rw (← same) near
 near_place (Field n next) room fault bytes near spelled = near_place (next (take n bytes)) (room - n) fault (drop n bytes) (near.1 (take n bytes)) spelled.1
 
-pub length_within : {E : Type 0} (layout : Layout E) (room : ℕ) (end : E) (bytes : List ℕ) → IsWithin layout room → Spells layout end bytes → length bytes ≤ room
+pub length_within : {E : Type 0} (layout : Layout E) (room : ℕ) (end : E) (bytes : List ℕ) → IsWithin layout room → Encodes layout end bytes → length bytes ≤ room
 length_within (Ends e) room end bytes within spelled = omega (arith, ap length spelled.1)
 length_within (Field n next) room end bytes within spelled =
     let rest = length_within (next (take n bytes)) (room - n) end (drop n bytes) (within.1 (take n bytes)) spelled.1 in
@@ -43,12 +43,12 @@ near_within : {V : Type 0} (layout : Layout (Result V Malformed)) (room : ℕ) �
 near_within (Ends e) room near = tt
 near_within (Field n next) room near = (near.0, λ field. near_within (next field) (room - n) (near.1 field))
 
-open_length_if : {V : Type 0} (layout : Layout (Result V Malformed)) (room : ℕ) (bytes : List ℕ) → IsNear layout room → IsOpen layout bytes → (end : Result (Result V Malformed) Missing) → judged layout bytes ≡ end → length bytes ≤ room
-open_length_if layout room bytes near none (Ok end) is = let front = spells_front layout bytes end is in absurd (none end front.0 front.2)
+open_length_if : {V : Type 0} (layout : Layout (Result V Malformed)) (room : ℕ) (bytes : List ℕ) → IsNear layout room → IsOpen layout bytes → (end : Result (Result V Malformed) Missing) → parsed layout bytes ≡ end → length bytes ≤ room
+open_length_if layout room bytes near none (Ok end) is = let prefix = encodes_prefix layout bytes end is in absurd (none end prefix.0 prefix.2)
 open_length_if layout room bytes near none (Err lack) is = omega (arith, wants_within layout room bytes lack.0 (near_within layout room near) is)
 
 pub near_open : {V : Type 0} (layout : Layout (Result V Malformed)) (room : ℕ) (bytes : List ℕ) → IsNear layout room → IsOpen layout bytes → length bytes ≤ room
-near_open layout room bytes near none = open_length_if layout room bytes near none (judged layout bytes) refl
+near_open layout room bytes near none = open_length_if layout room bytes near none (parsed layout bytes) refl
 
 -- ---- the record
 
@@ -56,15 +56,15 @@ either_near : {V : Type 0} (b : Bool) (p q : Layout (Result V Malformed)) (room 
 either_near true p q room h k = h refl
 either_near false p q room h k = k refl
 
-mark_near : {V : Type 0} (byte : ℕ) (why : Why) (place : ℕ) (next : Layout (Result V Malformed)) (room : ℕ) → 1 ≤ room → place ≤ 3991 → IsNear next (room - 1) → IsNear (mark_then byte why place next) room
-mark_near byte why place next room some near h = (some, λ b. either_near (eqb (slice_index b 0) byte) next (refuse why place) (room - 1) (λ _. h) (λ _. near))
+magic_byte_near : {V : Type 0} (byte : ℕ) (why : Why) (place : ℕ) (next : Layout (Result V Malformed)) (room : ℕ) → 1 ≤ room → place ≤ 3991 → IsNear next (room - 1) → IsNear (magic_byte_then byte why place next) room
+magic_byte_near byte why place next room some near h = (some, λ b. either_near (eqb (slice_index b 0) byte) next (refuse why place) (room - 1) (λ _. h) (λ _. near))
 
 value_near : {X : Type 0} (found : Option X) (place : ℕ) (next : X → Layout Ending) (room : ℕ) → place ≤ 3991 → ((value : X) → IsNear (next value) room) → IsNear (value_then found place next) room
 value_near None place next room near each = near
 value_near (Some value) place next room near each = each value
 
 content_near : (f : Fields) → f.count ≤ 3968 → IsNear (content_then f) 3968
-content_near f few = (few, λ content. either_near (ends_in_zero content) (refuse Value (22 + f.count)) (Ends (Ok f)) (3968 - f.count) (λ _. omega arith) (λ _. tt))
+content_near f within_limit = (within_limit, λ content. either_near (ends_in_zero content) (refuse Value (22 + f.count)) (Ends (Ok f)) (3968 - f.count) (λ _. omega arith) (λ _. tt))
 
 few_of : (size count : ℕ) → size ≤ 3982 → not (eqb (14 + count) size) ≡ false → count ≤ 3968
 few_of size count le is = grind (arith, nat_tests)
@@ -81,13 +81,13 @@ count_near size regs cancelled number le = (
       either_near (is_idle regs.phase && nat_lt 0 f.count) (refuse Value 21) (content_then f) 3968 (λ _. omega arith) (λ _. content_near f (few_of size f.count le is))),
 )
 
-abbrev mark_next : ℕ → Regs → Bool → Layout Ending
-mark_next size regs cancelled = cond (cancelled && not (is_executing regs.phase)) (refuse Value 12) (long_then (λ number. count_then size regs cancelled number))
+abbrev magic_byte_next : ℕ → Regs → Bool → Layout Ending
+magic_byte_next size regs cancelled = cond (cancelled && not (is_executing regs.phase)) (refuse Value 12) (long_then (λ number. count_then size regs cancelled number))
 
 job_near : (size : ℕ) (regs : Regs) → size ≤ 3982 → IsNear (job_then size regs) 3979
 job_near size regs le = (
   omega arith,
-  λ field. value_near (flag_at (slice_index field 0)) 12 (mark_next size regs) 3978 (omega arith) (λ cancelled.
+  λ field. value_near (flag_at (slice_index field 0)) 12 (magic_byte_next size regs) 3978 (omega arith) (λ cancelled.
       either_near (cancelled && not (is_executing regs.phase)) (refuse Value 12) (long_then (λ number. count_then size regs cancelled number)) 3978 (λ _. omega arith)
       (λ _. (omega arith, λ field. count_near size regs cancelled (from_be_bytes w64 field) le))),
 )
@@ -125,19 +125,19 @@ length_near = (
 pub record_near : IsNear record_layout 3991
 unfolding record_layout
 record_near =
-    mark_near 67 Magic 0 _ 3991 (omega arith) (omega arith) (mark_near 82 Magic 1 _ 3990 (omega arith) (omega arith) (mark_near 66 Magic 2 _ 3989 (omega arith) (omega arith)
-    (mark_near 68 Magic 3 _ 3988 (omega arith) (omega arith) (mark_near 1 Version 4 length_then 3987 (omega arith) (omega arith) length_near))))
+    magic_byte_near 67 Magic 0 _ 3991 (omega arith) (omega arith) (magic_byte_near 82 Magic 1 _ 3990 (omega arith) (omega arith) (magic_byte_near 66 Magic 2 _ 3989 (omega arith) (omega arith)
+    (magic_byte_near 68 Magic 3 _ 3988 (omega arith) (omega arith) (magic_byte_near 1 Version 4 length_then 3987 (omega arith) (omega arith) length_near))))
 
 -- What is refused of a record isn't far on.
 pub refused_near : (fault : Malformed) (bytes : List ℕ) → IsRefused fault bytes → fault.why ≢ Extra → fault.place ≤ 3991
-refused_near fault bytes (inl (n, told)) other = near_place record_layout 3991 fault (take n bytes) record_near told
+refused_near fault bytes (inl (n, exact)) other = near_place record_layout 3991 fault (take n bytes) record_near exact
 refused_near fault bytes (inr (inl cut)) other = rw cut.named (near_open record_layout 3991 bytes record_near cut.open_end)
 refused_near fault bytes (inr (inr on)) other = absurd (other on.named)
 
--- the layout of what the laws of records tell
-abbrev pub RecordIsTold : Type 0
-RecordIsTold = (v : DeviceValues) → AreFit v → Spells record_layout (Ok (fields_of v)) (record_text v)
+-- the layout of what the laws of records give
+abbrev pub RecordIsDecoded : Type 0
+RecordIsDecoded = (v : DeviceValues) → AreValid v → Encodes record_layout (Ok (fields_of v)) (encode_record v)
 
 -- A record isn't long.
-pub record_few : RecordIsTold → (bytes : List ℕ) (v : DeviceValues) → IsRecord bytes v → length bytes ≤ 3991
-record_few told bytes v is = rw is.spelled (length_within record_layout 3991 (Ok (fields_of v)) (record_text v) (near_within record_layout 3991 record_near) (told v is.fit))
+pub record_few : RecordIsDecoded → (bytes : List ℕ) (v : DeviceValues) → IsRecord bytes v → length bytes ≤ 3991
+record_few exact bytes v is = rw is.spelled (length_within record_layout 3991 (Ok (fields_of v)) (encode_record v) (near_within record_layout 3991 record_near) (exact v is.fit))

@@ -5,22 +5,22 @@ use Rattle.std.proofs.lemmas.List.{length-append, length-drop, take_at, take_all
 use Rattle.vt_base.specs.Numbers.{IsBytes, number}
 use Rattle.vt_base.specs.Refusing.{malformed}
 use Rattle.vt_base.proofs.Numbers.{IsBytes-drop, number-from}
-use Rattle.vt_base.specs.declared.words.Kind.{Kind}
-use Rattle.vt_base.specs.declared.words.Kind.TheVariants.{Permanent, Volatile, Saved}
-use Rattle.vt_base.specs.declared.words.Why.{Why}
-use Rattle.vt_base.specs.declared.words.Why.TheVariants.{Length, Value, Cut, Extra}
+use Rattle.vt_base.specs.declared.types.Kind.{Kind}
+use Rattle.vt_base.specs.declared.types.Kind.TheVariants.{Permanent, Volatile, Saved}
+use Rattle.vt_base.specs.declared.types.Why.{Why}
+use Rattle.vt_base.specs.declared.types.Why.TheVariants.{Length, Value, Cut, Extra}
 use Rattle.crb_machine.specs.Values.{DeviceValues}
 use Rattle.device_record.specs.Records.{IsRecord}
 use Rattle.tpm_core.specs.declared.parts.TpmParts.{TpmParts}
-use Rattle.state_blobs.specs.declared.words.BlobFault.{BlobFault}
+use Rattle.state_blobs.specs.declared.types.BlobFault.{BlobFault}
 use Rattle.state_blobs.specs.Gathering.{Gathering}
-use Rattle.state_blobs.specs.Texts.{text_of, IsBlob}
+use Rattle.state_blobs.specs.Encodings.{encode_blob, IsBlob}
 use Rattle.state_blobs.specs.Refusals.{length_field}
 use Rattle.state_blobs.specs.Assembly.{TellsVolatile, TellsSaved, IsAssembled, Disagrees, IsFaultFor, IsFault}
-use Rattle.crb_history.specs.Base.{Base}
+use Rattle.crb_history.specs.Snapshot.{Snapshot}
 use Rattle.saved_stream.specs.Numbers.{format_version}
 use Rattle.saved_stream.specs.declared.reading.Places.{Places}
-use Rattle.saved_stream.specs.Streams.{magic, framed, parts_text, stream_text, IsStream}
+use Rattle.saved_stream.specs.Streams.{magic, with_head, encode_parts, encode_stream, IsStream}
 use Rattle.saved_stream.specs.Refusals.{moved, HasHead, HasParts, total, place_of_saved, IsWholeRefused, IsStreamRefused}
 use Rattle.saved_stream.specs.Places.{between, AreAt}
 use Rattle.saved_stream.proofs.Passed.{split_at, length-between}
@@ -64,54 +64,54 @@ places_fit bytes at h a =
 -- ---- a stream
 
 no_empty_blob : (kind : Kind) (bytes : List ℕ) → bytes ≡ [] → IsBlob kind bytes → ⊥
-unfolding text_of
-no_empty_blob kind bytes none is = let never : [] ≡ text_of kind is.values = sym none ∙ is.spelled in absurd cc
+unfolding encode_blob
+no_empty_blob kind bytes none is = let never : [] ≡ encode_blob kind is.values = sym none ∙ is.spelled in absurd cc
 
-volatile_told : (bytes : List ℕ) (tpm : TpmParts) → IsBlob Volatile bytes → TellsVolatile bytes tpm → bytes ≡ text_of Volatile tpm
-volatile_told bytes tpm is (inl told) = told
-volatile_told bytes tpm is (inr (none, off)) = absurd (no_empty_blob Volatile bytes none is)
+volatile_decoded : (bytes : List ℕ) (tpm : TpmParts) → IsBlob Volatile bytes → TellsVolatile bytes tpm → bytes ≡ encode_blob Volatile tpm
+volatile_decoded bytes tpm is (inl exact) = exact
+volatile_decoded bytes tpm is (inr (none, off)) = absurd (no_empty_blob Volatile bytes none is)
 
-saved_told : (bytes : List ℕ) (tpm : TpmParts) → IsBlob Saved bytes → TellsSaved bytes tpm → bytes ≡ text_of Saved tpm
-saved_told bytes tpm is (inl told) = told
-saved_told bytes tpm is (inr (none, gone)) = absurd (no_empty_blob Saved bytes none is)
+saved_decoded : (bytes : List ℕ) (tpm : TpmParts) → IsBlob Saved bytes → TellsSaved bytes tpm → bytes ≡ encode_blob Saved tpm
+saved_decoded bytes tpm is (inl exact) = exact
+saved_decoded bytes tpm is (inr (none, gone)) = absurd (no_empty_blob Saved bytes none is)
 
-abbrev pub base : TpmParts → DeviceValues → Base
+abbrev pub base : TpmParts → DeviceValues → Snapshot
 base tpm v = record { tpm = tpm; device = v }
 
 -- the parts are those of these values
-parts_told : (bytes : List ℕ) (at : Places) (v : DeviceValues) (tpm : TpmParts) → AreAt bytes at → IsRecord (between bytes 9 at.permanent) v
+parts_decoded : (bytes : List ℕ) (at : Places) (v : DeviceValues) (tpm : TpmParts) → AreAt bytes at → IsRecord (between bytes 9 at.permanent) v
     → IsAssembled (between bytes at.permanent at.volatile) (between bytes at.volatile at.saved) (between bytes at.saved at.end) tpm
-    → between bytes 9 at.permanent ++ between bytes at.permanent at.volatile ++ between bytes at.volatile at.saved ++ between bytes at.saved at.end ≡ parts_text (base tpm v)
-parts_told bytes at v tpm a is made =
-    let volatile = volatile_told (between bytes at.volatile at.saved) tpm a.volatile.whole made.is_volatile in
-    let saved = saved_told (between bytes at.saved at.end) tpm a.saved.whole made.is_saved in
+    → between bytes 9 at.permanent ++ between bytes at.permanent at.volatile ++ between bytes at.volatile at.saved ++ between bytes at.saved at.end ≡ encode_parts (base tpm v)
+parts_decoded bytes at v tpm a is made =
+    let volatile = volatile_decoded (between bytes at.volatile at.saved) tpm a.volatile.whole made.is_volatile in
+    let saved = saved_decoded (between bytes at.saved at.end) tpm a.saved.whole made.is_saved in
     rw (is.spelled, made.is_permanent, volatile, saved) refl
 
 abbrev begin : List ℕ
 begin = magic ++ format_version ∷ []
 
 -- What stands up to the end of the parts is a stream, if the length is theirs.
-pub stream_front : (bytes : List ℕ) (at : Places) (v : DeviceValues) (tpm : TpmParts) → IsBytes bytes → HasHead bytes → AreAt bytes at → length_field bytes ≡ at.end - 9 → IsRecord (between bytes 9 at.permanent) v
+pub stream_prefix : (bytes : List ℕ) (at : Places) (v : DeviceValues) (tpm : TpmParts) → IsBytes bytes → HasHead bytes → AreAt bytes at → length_field bytes ≡ at.end - 9 → IsRecord (between bytes 9 at.permanent) v
     → IsAssembled (between bytes at.permanent at.volatile) (between bytes at.volatile at.saved) (between bytes at.saved at.end) tpm → IsStream (take at.end bytes) (base tpm v)
-unfolding stream_text have_parts
-stream_front bytes at v tpm fits h a same is made =
+unfolding encode_stream have_parts
+stream_prefix bytes at v tpm fits h a same is made =
     let p = have_parts bytes at h a in
     let parts : List ℕ = p.device ++ p.permanent ++ p.volatile ++ p.saved in
     let count : length parts ≡ at.end - 9 = (places_fit bytes at h a).0 in
-    let told : parts ≡ parts_text (base tpm v) = parts_told bytes at v tpm a is made in
+    let exact : parts ≡ encode_parts (base tpm v) = parts_decoded bytes at v tpm a is made in
     let end : at.end ≡ 9 + length parts = omega (arith, count, a.device.order, a.permanent.order, a.volatile.order, a.saved.order) in
     let field : take 4 (drop 5 bytes) ≡ number (length parts) =
     sym (number-from (drop 5 bytes) (IsBytes-drop 5 bytes fits) (omega (arith, length-drop 5 bytes, h.long))) ∙ ap number (same ∙ sym count) in
-    let front : take 9 bytes ≡ begin ++ number (length parts) = take-add 5 4 bytes ∙ ap (λ (f : List ℕ). f ++ take 4 (drop 5 bytes)) h.begins ∙ ap (λ (f : List ℕ). begin ++ f) field in
+    let prefix : take 9 bytes ≡ begin ++ number (length parts) = take-add 5 4 bytes ∙ ap (λ (f : List ℕ). f ++ take 4 (drop 5 bytes)) h.begins ∙ ap (λ (f : List ℕ). begin ++ f) field in
     let body : take (length parts) (drop 9 bytes) ≡ parts = ap (take (length parts)) p.behind ∙ take_at parts p.after (length parts) refl in
-    let all : take at.end bytes ≡ framed parts =
-    ap (λ (n : ℕ). take n bytes) end ∙ take-add 9 (length parts) bytes ∙ ap (λ (f : List ℕ). f ++ take (length parts) (drop 9 bytes)) front ∙ ap (λ (r : List ℕ). (begin ++ number (length parts)) ++ r) body in
-    record { fit = record { device = is.fit; tpm = made.fit }; spelled = all ∙ ap framed told }
+    let all : take at.end bytes ≡ with_head parts =
+    ap (λ (n : ℕ). take n bytes) end ∙ take-add 9 (length parts) bytes ∙ ap (λ (f : List ℕ). f ++ take (length parts) (drop 9 bytes)) prefix ∙ ap (λ (r : List ℕ). (begin ++ number (length parts)) ++ r) body in
+    record { fit = record { device = is.fit; tpm = made.fit }; spelled = all ∙ ap with_head exact }
 
 pub whole_stream : (bytes : List ℕ) (at : Places) (v : DeviceValues) (tpm : TpmParts) → IsBytes bytes → HasHead bytes → AreAt bytes at → length_field bytes ≡ at.end - 9 → IsRecord (between bytes 9 at.permanent) v
     → IsAssembled (between bytes at.permanent at.volatile) (between bytes at.volatile at.saved) (between bytes at.saved at.end) tpm → length bytes ≤ at.end → IsStream bytes (base tpm v)
 whole_stream bytes at v tpm fits h a same is made le =
-    subst (λ (b : List ℕ). IsStream b (base tpm v)) (take_all at.end bytes le) (stream_front bytes at v tpm fits h a same is made)
+    subst (λ (b : List ℕ). IsStream b (base tpm v)) (take_all at.end bytes le) (stream_prefix bytes at v tpm fits h a same is made)
 
 -- ---- refusals
 
@@ -120,7 +120,7 @@ refused_length bytes at h a differs = inr (inr (have_parts bytes at h a, refl, �
 
 pub refused_extra : (bytes : List ℕ) (at : Places) (v : DeviceValues) (tpm : TpmParts) → IsBytes bytes → HasHead bytes → AreAt bytes at → length_field bytes ≡ at.end - 9 → IsRecord (between bytes 9 at.permanent) v
     → IsAssembled (between bytes at.permanent at.volatile) (between bytes at.volatile at.saved) (between bytes at.saved at.end) tpm → at.end < length bytes → IsStreamRefused (malformed Extra at.end) bytes
-refused_extra bytes at v tpm fits h a same is made less = inr (inr (less, base tpm v, stream_front bytes at v tpm fits h a same is made))
+refused_extra bytes at v tpm fits h a same is made less = inr (inr (less, base tpm v, stream_prefix bytes at v tpm fits h a same is made))
 
 -- three whole blobs are at fault only where they disagree
 pub only_disagree : (kind : Kind) (why : Why) (place : ℕ) (p v z : List ℕ) → IsBlob Permanent p → IsBlob Volatile v → IsBlob Saved z → IsFaultFor kind why place p v z → (why ≡ Value) × Disagrees place v z

@@ -3,4 +3,4 @@ pub mod Parts
 pub mod Streams
 pub mod Refusals
 pub mod Places
-pub mod Walks
+pub mod Headers

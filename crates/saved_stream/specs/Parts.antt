@@ -1,13 +1,13 @@
 -- The parts of a stream: the record of a device, and the blobs of a TPM. (Own definitions.)
 use Rattle.std.specs.Prelude.{◌≡◌, ℕ, List, [], ◌∷◌, ◌⊎◌, length}
 use Rattle.vt_base.specs.Refusing.{malformed}
-use Rattle.vt_base.specs.declared.words.Kind.TheVariants.{Permanent, Volatile, Saved}
-use Rattle.vt_base.specs.declared.words.Why.TheVariants.{Cut}
-use Rattle.vt_base.specs.declared.words.Malformed.{Malformed}
+use Rattle.vt_base.specs.declared.types.Kind.TheVariants.{Permanent, Volatile, Saved}
+use Rattle.vt_base.specs.declared.types.Why.TheVariants.{Cut}
+use Rattle.vt_base.specs.declared.types.Malformed.{Malformed}
 use Rattle.crb_machine.specs.Values.{DeviceValues}
 use Rattle.device_record.specs.Records.{IsRecord}
 use Rattle.device_record.specs.Layouts as layouts
-use Rattle.state_blobs.specs.Texts.{IsBlob}
+use Rattle.state_blobs.specs.Encodings.{IsBlob}
 use Rattle.state_blobs.specs.Refusals.{IsRefused, IsCut}
 use Rattle.saved_stream.specs.declared.part.Part.{Part}
 use Rattle.saved_stream.specs.declared.part.Part.TheVariants.{Record, Blob}

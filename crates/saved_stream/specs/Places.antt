@@ -1,10 +1,10 @@
 -- Where the parts of a stream stand. (Own definitions.)
 use Rattle.std.specs.Prelude.{◌≡◌, ℕ, ◌+◌, ◌-◌, ◌≤◌, ◌⊎◌, List, length}
-use Rattle.vt_base.specs.declared.words.Kind.TheVariants.{Permanent, Volatile, Saved}
+use Rattle.vt_base.specs.declared.types.Kind.TheVariants.{Permanent, Volatile, Saved}
 use Rattle.crb_machine.specs.Values.{held_values}
 use Rattle.crb_machine.specs.Model.{DeviceModel}
 use Rattle.device_record.specs.Records.{IsRecord}
-use Rattle.state_blobs.specs.Texts.{slice}
+use Rattle.state_blobs.specs.Encodings.{slice}
 use Rattle.saved_stream.specs.declared.part.Part.{Part}
 use Rattle.saved_stream.specs.declared.part.Part.TheVariants.{Record, Blob}
 use Rattle.saved_stream.specs.declared.reading.Places.{Places}
@@ -18,7 +18,7 @@ between bytes from end = slice bytes from (end - from)
 pub record IsPartAt (part : Part) (bytes : List ℕ) (from end : ℕ) : Type 0 where
   pub order : from ≤ end
   pub within : end ≤ length bytes
-  pub few : end ≤ from + 3991
+  pub within_limit : end ≤ from + 3991
   pub whole : IsWhole part (between bytes from end)
 
 -- The four parts stand one behind the other.

@@ -1,17 +1,17 @@
 -- Why bytes are refused as a stream: the first cause from the left, and then what only the whole shows. Places count
 -- from the first byte. (Own definitions.)
 use Rattle.std.specs.Prelude.{◌≡◌, ◌≢◌, ◌⊎◌, ℕ, ◌+◌, ◌<◌, ◌≤◌, List, [], ◌∷◌, ◌++◌, length, take, drop, Err, Ok}
-use Rattle.vt_base.specs.Layout.{Layout, Ends, Field, Spells, IsOpen}
-use Rattle.vt_base.specs.Marks.{marks_then}
-use Rattle.vt_base.specs.Refusing.{malformed, mark_then}
-use Rattle.vt_base.specs.declared.words.Kind.TheVariants.{Permanent, Volatile, Saved}
-use Rattle.vt_base.specs.declared.words.Why.{Why}
-use Rattle.vt_base.specs.declared.words.Why.TheVariants.{Version, Length, Value, Cut, Extra}
-use Rattle.vt_base.specs.declared.words.Malformed.{Malformed}
+use Rattle.vt_base.specs.Layout.{Layout, Ends, Field, Encodes, IsOpen}
+use Rattle.vt_base.specs.Magics.{magic_then}
+use Rattle.vt_base.specs.Refusing.{malformed, magic_byte_then}
+use Rattle.vt_base.specs.declared.types.Kind.TheVariants.{Permanent, Volatile, Saved}
+use Rattle.vt_base.specs.declared.types.Why.{Why}
+use Rattle.vt_base.specs.declared.types.Why.TheVariants.{Version, Length, Value, Cut, Extra}
+use Rattle.vt_base.specs.declared.types.Malformed.{Malformed}
 use Rattle.state_blobs.specs.Blobs.{Ending}
 use Rattle.state_blobs.specs.Refusals.{length_field}
 use Rattle.state_blobs.specs.Assembly.{Disagrees}
-use Rattle.crb_history.specs.Base.{Base}
+use Rattle.crb_history.specs.Snapshot.{Snapshot}
 use Rattle.saved_stream.specs.Numbers.{format_version}
 use Rattle.saved_stream.specs.declared.part.Part.{Part}
 use Rattle.saved_stream.specs.declared.part.Part.TheVariants.{Record, Blob}
@@ -22,16 +22,16 @@ use Rattle.saved_stream.specs.Streams.{magic, IsStream}
 
 -- the version, and a length, which is compared only once the parts are whole
 abbrev pub version_then : Layout Ending
-version_then = mark_then format_version Version 4 (Field 4 (λ length. Ends (Ok tt)))
+version_then = magic_byte_then format_version Version 4 (Field 4 (λ length. Ends (Ok tt)))
 
 -- a head
 unfoldable pub head : Layout Ending
-head = marks_then magic 0 version_then
+head = magic_then magic 0 version_then
 
 -- The bytes end before a head does, or a field of it is refused.
 abbrev pub IsHeadRefusedFor : Why → ℕ → List ℕ → Type 0
 IsHeadRefusedFor Cut place bytes = (place ≡ length bytes) × IsOpen head bytes
-IsHeadRefusedFor why place bytes = (n : ℕ) × Spells head (Err (malformed why place)) (take n bytes)
+IsHeadRefusedFor why place bytes = (n : ℕ) × Encodes head (Err (malformed why place)) (take n bytes)
 
 abbrev pub IsHeadRefused : Malformed → List ℕ → Type 0
 IsHeadRefused fault bytes = IsHeadRefusedFor fault.why fault.place bytes
@@ -59,7 +59,7 @@ abbrev pub ArePartsRefused : List Part → ℕ → Malformed → List ℕ → Ty
 ArePartsRefused [] place fault bytes = ⊥
 ArePartsRefused (part ∷ parts) place fault bytes =
     IsStopped part place fault bytes
-    ⊎ ((front : List ℕ) × (after : List ℕ) × (bytes ≡ front ++ after) × IsWhole part front × ArePartsRefused parts (place + length front) fault after)
+    ⊎ ((prefix : List ℕ) × (after : List ℕ) × (bytes ≡ prefix ++ after) × IsWhole part prefix × ArePartsRefused parts (place + length prefix) fault after)
 
 -- ---- what the whole shows
 
@@ -91,7 +91,7 @@ abbrev pub IsWholeRefusedFor : Why → ℕ → List ℕ → Type 0
 IsWholeRefusedFor Length place bytes = (p : HasParts bytes) × (place ≡ 5) × (length_field bytes ≢ total p)
 IsWholeRefusedFor Value place bytes =
     (p : HasParts bytes) × (length_field bytes ≡ total p) × (inner : ℕ) × Disagrees inner p.volatile p.saved × (place ≡ place_of_saved p + inner)
-IsWholeRefusedFor Extra place bytes = (place < length bytes) × (b : Base) × IsStream (take place bytes) b
+IsWholeRefusedFor Extra place bytes = (place < length bytes) × (b : Snapshot) × IsStream (take place bytes) b
 IsWholeRefusedFor why place bytes = ⊥
 
 abbrev pub IsWholeRefused : Malformed → List ℕ → Type 0

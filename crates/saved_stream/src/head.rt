@@ -1,16 +1,16 @@
 //! The head of a stream.
 
 ghost use Rattle.std.specs.Prelude.{◌≡◌, ◌≤◌, ◌≢◌, length, IfOk, IfErr, OnOk};
-ghost use Rattle.vt_base.specs.Verdict.{judged};
-ghost use Rattle.vt_base.specs.declared.words.Why.TheVariants.{Extra};
+ghost use Rattle.vt_base.specs.Parsing.{parsed};
+ghost use Rattle.vt_base.specs.declared.types.Why.TheVariants.{Extra};
 ghost use Rattle.state_blobs.specs.Refusals.{length_field};
 ghost use Rattle.saved_stream.specs.Refusals.{version_then, head, HasHead, IsHeadRefused};
 
 use crate::format::{HEADER_SIZE, LENGTH_PLACE, MAGIC, VERSION, VERSION_PLACE};
-use vt_base::{Judged, Malformed, Missing, Why, behind_magic, byte_of, number_of, refused};
+use vt_base::{Malformed, Missing, Parsed, Why, behind_magic, byte_of, number_of, refused};
 
-fn version_of(rest: &[u8]) -> Judged<()>
-    ensures { result ≡ judged version_then rest.now }
+fn version_of(rest: &[u8]) -> Parsed<()>
+    ensures { result ≡ parsed version_then rest.now }
 {
     let (version, rest) = byte_of(rest)?;
     if version != VERSION {
@@ -20,9 +20,9 @@ fn version_of(rest: &[u8]) -> Judged<()>
     Ok(Ok(()))
 }
 
-#[tactic(auto, using(crate::proofs::Marked::judged_head))]
-fn judge(bytes: &[u8]) -> Judged<()>
-    ensures { result ≡ judged head bytes.now }
+#[tactic(auto, using(crate::proofs::MagicRead::parsed_head))]
+fn parse(bytes: &[u8]) -> Parsed<()>
+    ensures { result ≡ parsed head bytes.now }
 {
     match behind_magic(bytes, MAGIC)? {
         Ok(rest) => version_of(rest),
@@ -30,14 +30,14 @@ fn judge(bytes: &[u8]) -> Judged<()>
     }
 }
 
-/// The length that the head of a stream tells, or why there is no head.
-#[tactic(auto, using(crate::proofs::Heads::head_if_told, crate::proofs::Heads::cut_if_open, crate::proofs::Heads::refused_if_told))]
+/// The length that the head of a stream gives, or why there is no head.
+#[tactic(auto, using(crate::proofs::Heads::head_if_decoded, crate::proofs::Heads::cut_if_open, crate::proofs::Heads::refused_if_decoded))]
 pub fn length_of(bytes: &[u8]) -> Result<u32, Malformed>
     ensures ok { OnOk result (HasHead bytes.now) }
     ensures length { IfOk result (λ count. count ≡ length_field bytes.now) }
     ensures refused { IfErr result (λ fault. IsHeadRefused fault bytes.now) }
 {
-    match judge(bytes) {
+    match parse(bytes) {
         Err(Missing(_)) => {
             return Err(Malformed {
                 why: Why::Cut,

@@ -2,43 +2,40 @@
 
 ghost use Rattle.std.specs.Prelude.{◌≡◌, ◌≢◌, ℕ, ◌+◌, ◌<◌, ◌≤◌, List, ◌++◌, length, take};
 ghost use Rattle.vt_base.specs.Refusing.{malformed};
-ghost use Rattle.vt_base.specs.declared.words.Malformed.{Malformed};
-ghost use Rattle.vt_base.specs.declared.words.Why.TheVariants.{Cut, Extra};
-ghost use Rattle.crb_history.specs.Base.{Base, IsFitBase};
-ghost use Rattle.saved_stream.specs.Streams.{framed, parts_text, IsStream};
+ghost use Rattle.vt_base.specs.declared.types.Malformed.{Malformed};
+ghost use Rattle.vt_base.specs.declared.types.Why.TheVariants.{Cut, Extra};
+ghost use Rattle.crb_history.specs.Snapshot.{Snapshot, IsValidSnapshot};
+ghost use Rattle.saved_stream.specs.Streams.{with_head, encode_parts, IsStream};
 ghost use Rattle.saved_stream.specs.Refusals.{IsStreamRefused};
-ghost use Rattle.saved_stream.specs.Walks.{wanted_after};
-
-use device_record::laws::{records_are_told_apart, records_are_told_once};
-use state_blobs::laws::{blobs_are_told_apart, tpms_are_assembled_once};
+ghost use Rattle.saved_stream.specs.Headers.{wanted_after};
 
 /// Bytes are the stream of one device and one TPM, or they are refused for one reason at one place.
-pub fn streams_are_told_once()
+pub fn decoding_is_unique()
     // What is written of the parts of fit values is their stream.
-    ensures streams { (b : Base) → IsFitBase b → IsStream (framed (parts_text b)) b }
+    ensures streams { (b : Snapshot) → IsValidSnapshot b → IsStream (with_head (encode_parts b)) b }
 
-    ensures once { (bytes : List ℕ) (b c : Base) → IsStream bytes b → IsStream bytes c → b ≡ c }
-    ensures not_refused { (bytes : List ℕ) (b : Base) (fault : Malformed) → IsStream bytes b → IsStreamRefused fault bytes → ⊥ }
+    ensures once { (bytes : List ℕ) (b c : Snapshot) → IsStream bytes b → IsStream bytes c → b ≡ c }
+    ensures not_refused { (bytes : List ℕ) (b : Snapshot) (fault : Malformed) → IsStream bytes b → IsStreamRefused fault bytes → ⊥ }
     ensures refused_once { (bytes : List ℕ) (f g : Malformed) → IsStreamRefused f bytes → IsStreamRefused g bytes → f ≡ g }
 
     // Bytes that are refused for what stands behind a stream begin with one.
     ensures behind { (bytes : List ℕ) (place : ℕ) → IsStreamRefused (malformed Extra place) bytes
-        → (place < length bytes) × (b : Base) × IsStream (take place bytes) b }
+        → (place < length bytes) × (b : Snapshot) × IsStream (take place bytes) b }
 
-    // Each front of a stream is cut.
-    ensures fronts { (bytes : List ℕ) (b : Base) (n : ℕ) → IsStream bytes b → n < length bytes → IsStreamRefused (malformed Cut n) (take n bytes) }
+    // Each prefix of a stream is cut.
+    ensures fronts { (bytes : List ℕ) (b : Snapshot) (n : ℕ) → IsStream bytes b → n < length bytes → IsStreamRefused (malformed Cut n) (take n bytes) }
 
     // A reader that asks for as many bytes as are wanted gets the stream, and no byte past it.
-    ensures asks { (bytes : List ℕ) (b : Base) (n : ℕ) → IsStream bytes b → n < length bytes → 0 < wanted_after (take n bytes) }
-    ensures within { (bytes : List ℕ) (b : Base) (n : ℕ) → IsStream bytes b → n < length bytes → n + wanted_after (take n bytes) ≤ length bytes }
-    ensures stops { (bytes : List ℕ) (b : Base) → IsStream bytes b → wanted_after bytes ≡ 0 }
+    ensures asks { (bytes : List ℕ) (b : Snapshot) (n : ℕ) → IsStream bytes b → n < length bytes → 0 < wanted_after (take n bytes) }
+    ensures within { (bytes : List ℕ) (b : Snapshot) (n : ℕ) → IsStream bytes b → n < length bytes → n + wanted_after (take n bytes) ≤ length bytes }
+    ensures stops { (bytes : List ℕ) (b : Snapshot) → IsStream bytes b → wanted_after bytes ≡ 0 }
 
     // What else is refused stays so, whatever follows.
     ensures stays { (bytes more : List ℕ) (fault : Malformed) → IsStreamRefused fault bytes → fault.why ≢ Cut → fault.why ≢ Extra
         → IsStreamRefused fault (bytes ++ more) }
 {
-    records_are_told_apart();
-    records_are_told_once();
-    blobs_are_told_apart();
-    tpms_are_assembled_once();
+    device_record::laws::records_are_prefix_free();
+    device_record::laws::record_encoding_is_injective();
+    state_blobs::laws::blobs_are_prefix_free();
+    state_blobs::laws::tpms_are_assembled_once();
 }

@@ -21,21 +21,22 @@
 //! ```
 //!
 //! The format is our own: the magic `CRBS`, a version, how many bytes follow, and then the record of the device and the
-//! permanent, the volatile and the saved blob of the TPM, each by its own format and whole. Each value has one spelling.
-//! Bytes that are no stream are refused at their first fault from the left; what only the whole shows is judged after
-//! that: the length in the head, a saved state that isn't that of a running TPM, and bytes behind the stream.
+//! permanent, the volatile and the saved blob of the TPM, each by its own format and whole. Each value has one
+//! encoding. Bytes that are no stream are refused at their first fault from the left; what only the whole shows is
+//! checked after that: the length in the head, a saved state that isn't that of a running TPM, and bytes behind the
+//! stream.
 //!
 //! Where the bytes are kept, and when a device and its TPM may be taken apart, is left to others.
 #![tactic(auto)]
 
+mod bytes_needed;
 mod format;
 mod head;
 pub mod laws;
 mod part;
 mod reading;
-mod walk;
 mod writing;
 
+pub use bytes_needed::wanted;
 pub use reading::read_stream;
-pub use walk::wanted;
 pub use writing::write_stream;

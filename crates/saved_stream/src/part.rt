@@ -1,7 +1,7 @@
 //! The parts of a stream, and what their headers may be.
 
 ghost use Rattle.std.specs.Prelude.{◌≡◌};
-ghost use Rattle.saved_stream.specs.Walks.{part_magic, may_follow};
+ghost use Rattle.saved_stream.specs.Headers.{part_magic, may_follow};
 
 use crate::format::{
     FLAG_ALONE, LARGEST_RECORD, PERMANENT_LENGTH, PERMANENT_MAGIC, RECORD_MAGIC, SAVED_LENGTH,

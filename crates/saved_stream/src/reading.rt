@@ -2,10 +2,10 @@
 
 ghost use Rattle.std.specs.Prelude.{◌≡◌, ◌≢◌, ◌+◌, ◌^◌, ◌<◌, ◌≤◌, true, false, [], length, drop, IfOk, IfErr, OnOk, OnErr};
 ghost use Rattle.vt_base.specs.Refusing.{malformed};
-ghost use Rattle.vt_base.specs.declared.words.Why.TheVariants.{Cut};
-ghost use Rattle.vt_base.specs.declared.words.Kind.TheVariants.{Permanent, Volatile, Saved};
+ghost use Rattle.vt_base.specs.declared.types.Why.TheVariants.{Cut};
+ghost use Rattle.vt_base.specs.declared.types.Kind.TheVariants.{Permanent, Volatile, Saved};
 ghost use Rattle.crb_machine.specs.Values.{held_values};
-ghost use Rattle.crb_machine.specs.Over.{IsSound, HasInHand};
+ghost use Rattle.crb_machine.specs.Over.{IsConsistentDevice, HasClaimedNumber};
 ghost use Rattle.device_record.specs.Records.{IsRecord};
 ghost use Rattle.state_blobs.specs.Refusals.{length_field};
 ghost use Rattle.saved_stream.specs.declared.part.Part.TheVariants.{Record, Blob};
@@ -18,9 +18,7 @@ use crate::format::{HEADER_SIZE, LENGTH_PLACE};
 use crate::head::length_of;
 use crb_machine::Device;
 use crb_port::Port;
-use device_record::laws::records_are_told_apart;
 use device_record::load_record;
-use state_blobs::laws::blobs_are_told_apart;
 use state_blobs::{Gather, assemble};
 use std::alloc::{AllocError, Global};
 use tpm_core::Tpm;
@@ -42,9 +40,9 @@ pub fn read_stream<P: Port>(
     ensures err { OnErr result (device.new ≡ device.old) }
     ensures held { device.new.held ≡ true }
     ensures port { device.new.port ≡ device.old.port }
-    ensures sound { IfOk result (λ read. OnOk read (IsSound P.known device.new)) }
-    ensures hand { IfOk result (λ read. OnOk read (HasInHand P.known device.new)) }
-    ensures rest { P.rest device.new.port ≡ P.rest device.old.port }
+    ensures consistent { IfOk result (λ read. OnOk read (IsConsistentDevice P.port_view device.new)) }
+    ensures claimed_number { IfOk result (λ read. OnOk read (HasClaimedNumber P.port_view device.new)) }
+    ensures rest_unchanged { P.rest device.new.port ≡ P.rest device.old.port }
 {
     let mut permanent = Gather::new(alloc, Kind::Permanent)?;
     let mut volatile = Gather::new(alloc, Kind::Volatile)?;
@@ -78,9 +76,9 @@ fn read_whole<P: Port>(
     ensures left { OnErr result (IsLeft bytes.now device.old device.new) }
     ensures held { device.new.held ≡ true }
     ensures port { device.new.port ≡ device.old.port }
-    ensures sound { OnOk result (IsSound P.known device.new) }
-    ensures hand { OnOk result (HasInHand P.known device.new) }
-    ensures rest { P.rest device.new.port ≡ P.rest device.old.port }
+    ensures consistent { OnOk result (IsConsistentDevice P.port_view device.new) }
+    ensures claimed_number { OnOk result (HasClaimedNumber P.port_view device.new) }
+    ensures rest_unchanged { P.rest device.new.port ≡ P.rest device.old.port }
 {
     let length = length_of(bytes)?;
     let at = parts_at(bytes, device, permanent, volatile, saved)?;
@@ -103,7 +101,7 @@ fn read_whole<P: Port>(
     Ok(tpm)
 }
 
-/// Reads the four parts, and tells where they stand.
+/// Reads the four parts, and says where they stand.
 fn parts_at<P: Port>(
     bytes: &[u8],
     device: &mut Device<P>,
@@ -125,9 +123,9 @@ fn parts_at<P: Port>(
     ensures left { OnErr result (IsLeft bytes.now device.old device.new) }
     ensures held { device.new.held ≡ true }
     ensures port { device.new.port ≡ device.old.port }
-    ensures sound { OnOk result (IsSound P.known device.new) }
-    ensures hand { OnOk result (HasInHand P.known device.new) }
-    ensures rest { P.rest device.new.port ≡ P.rest device.old.port }
+    ensures consistent { OnOk result (IsConsistentDevice P.port_view device.new) }
+    ensures claimed_number { OnOk result (HasClaimedNumber P.port_view device.new) }
+    ensures rest_unchanged { P.rest device.new.port ≡ P.rest device.old.port }
 {
     let record_end = record_in(bytes, HEADER_SIZE, device)?;
     let permanent_end = blob_in(bytes, record_end, permanent)?;
@@ -141,7 +139,7 @@ fn parts_at<P: Port>(
     })
 }
 
-/// Reads the record that begins at a place, and tells where it ends. The record itself says where: all bytes are given
+/// Reads the record that begins at a place, and says where it ends. The record itself says where: all bytes are given
 /// to it, and what it refuses as extra isn't its own.
 fn record_in<P: Port>(bytes: &[u8], from: usize, device: &mut Device<P>) -> Result<usize, Malformed>
     requires held { device.old.held ≡ true }
@@ -153,11 +151,11 @@ fn record_in<P: Port>(bytes: &[u8], from: usize, device: &mut Device<P>) -> Resu
     ensures unchanged { OnErr result (device.new ≡ device.old) }
     ensures held { device.new.held ≡ true }
     ensures port { device.new.port ≡ device.old.port }
-    ensures sound { OnOk result (IsSound P.known device.new) }
-    ensures hand { OnOk result (HasInHand P.known device.new) }
-    ensures rest { P.rest device.new.port ≡ P.rest device.old.port }
+    ensures consistent { OnOk result (IsConsistentDevice P.port_view device.new) }
+    ensures claimed_number { OnOk result (HasClaimedNumber P.port_view device.new) }
+    ensures rest_unchanged { P.rest device.new.port ≡ P.rest device.old.port }
 {
-    records_are_told_apart();
+    device_record::laws::records_are_prefix_free();
     let (_, rest) = bytes.split_at(from);
     let Err(fault) = load_record(device, rest) else {
         return Ok(bytes.len());
@@ -172,7 +170,7 @@ fn record_in<P: Port>(bytes: &[u8], from: usize, device: &mut Device<P>) -> Resu
     Ok(from + count)
 }
 
-/// Gathers the blob that begins at a place, and tells where it ends.
+/// Gathers the blob that begins at a place, and says where it ends.
 fn blob_in(bytes: &[u8], from: usize, gather: &mut Gather) -> Result<usize, Malformed>
     requires empty { gather.old.begun ≡ [] }
     requires from { from ≤ length bytes.now }
@@ -181,7 +179,7 @@ fn blob_in(bytes: &[u8], from: usize, gather: &mut Gather) -> Result<usize, Malf
     ensures begun { IfOk result (λ end. gather.new ≡ record { kind = gather.old.kind; begun = between bytes.now from end; whole = true }) }
     ensures refused { IfErr result (λ fault. IsStopped (Blob gather.old.kind) from fault (drop from bytes.now)) }
 {
-    blobs_are_told_apart();
+    state_blobs::laws::blobs_are_prefix_free();
     let (_, rest) = bytes.split_at(from);
     let fault = match gather.push(rest) {
         Ok(true) => return Ok(bytes.len()),
@@ -202,7 +200,7 @@ fn blob_in(bytes: &[u8], from: usize, gather: &mut Gather) -> Result<usize, Malf
 /// The bytes end before the blob does.
 fn cut_behind(gather: &Gather) -> Malformed
     ensures fault { result ≡ malformed Cut (length gather.now.begun) }
-    ensures few { result.place ≤ 790 }
+    ensures within_limit { result.place ≤ 790 }
 {
     Malformed {
         why: Why::Cut,

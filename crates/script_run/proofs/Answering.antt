@@ -5,7 +5,7 @@ use Rattle.std.specs.Int.{w32, from_be_bytes}
 use Rattle.std.proofs.lemmas.Bool.Decides.{nat_tests}
 use Rattle.std.proofs.lemmas.Nat.{from_be_bytes-to_be_bytes_4}
 use Rattle.vt_base.specs.Numbers.{number}
-use Rattle.crb_regs.specs.LittleEndian.{number_at}
+use Rattle.crb_regs.specs.LittleEndian.{little_endian_at}
 use Rattle.crb_regs.specs.declared.phase.Phase.TheVariants.{Idle, Completion}
 use Rattle.crb_port.specs.declared.job.Outcome.TheVariants.{Done}
 use Rattle.tpm_core.specs.Answers.{Entry, answer}
@@ -16,72 +16,72 @@ use Rattle.crb_driver.specs.Bus.{Exchange, Reaches, reading, writing}
 use Rattle.crb_driver.specs.Accesses.{start_accesses, poll_accesses, size_accesses, collect_accesses, finish_accesses, byte_reads, register_read}
 use Rattle.crb_driver.specs.Sizes.{IsBadLength, reported}
 use Rattle.tpm_frame.specs.Sizes.{IsWellSized}
-use Rattle.crb_driver.specs.Calls.{RunsThen, Answers, Fails, run_accesses}
+use Rattle.crb_driver.specs.Calls.{RunsThen, AnswersCall, Fails, run_accesses}
 use Rattle.crb_driver.specs.declared.fault.DriverFault.{DriverFault}
 use Rattle.crb_driver.specs.declared.fault.DriverFault.TheVariants.{Size, NotGranted, NotReady, TimedOut, Fatal, BadResponse}
-use Rattle.crb_history.specs.Base.{Base}
+use Rattle.crb_history.specs.Snapshot.{Snapshot}
 use Rattle.crb_history.specs.Bytes.{bytes_at}
 use Rattle.crb_history.specs.Event.{Event, History}
 use Rattle.crb_history.specs.Event.Event.{Read, Write, Claim, Sent, Exec, Finish}
-use Rattle.crb_history.specs.Device.{phase_of, is_granted, is_cancel, buffer, executed, shows, Stage}
-use Rattle.crb_history.specs.Device.Stage.{Waiting, Claimed, HasSent, HasRun}
-use Rattle.crb_history.specs.Replies.{with_event, turn_at, Turning, turning_of, has_rest}
+use Rattle.crb_history.specs.Device.{phase_of, is_granted, is_cancel, buffer, executed, shown_byte, JobStage}
+use Rattle.crb_history.specs.Device.JobStage.{Waiting, Claimed, HasSent, HasHeader}
+use Rattle.vt_transcript.specs.Replies.{with_event, worker_reply_at, WorkerReplyInputs, worker_reply_inputs, has_rest}
 use Rattle.vt_script.specs.declared.event.Event.TheVariants.{Work}
 use Rattle.vt_script.specs.declared.reply.Reply.TheVariants as replied
 use Rattle.vt_seat.specs.State.{WorldState}
-use Rattle.crb_history.specs.Replies.{none_fails}
-use Rattle.vt_world.specs.Bus.{IsAfter, Leads, after_turn}
+use Rattle.vt_transcript.specs.Replies.{none_fails}
+use Rattle.vt_world.specs.Bus.{IsBusAfter, Leads, after_turn}
 use Rattle.script_run.specs.Calls.{IsAtRest, Calls}
 use Rattle.crb_history.proofs.Bytes.{take-bytes_at, take-drop-bytes_at}
 use Rattle.script_run.proofs.Driving.{Found, found-at, reaches-split, Stands, Runs, requested, readied, started, resting, take-all}
 
 -- the answer to the command is in the buffer
-record Answered (b : Base) (past : List Entry) (command : List ℕ) (p : History) (s : WorldState) : Type 0 where
-  pub after : IsAfter b p s
+record Answered (b : Snapshot) (past : List Entry) (command : List ℕ) (p : History) (s : WorldState) : Type 0 where
+  pub after : IsBusAfter b p s
   pub phase : phase_of b p ≡ Completion
   pub done : executed b p ≡ Executed command ∷ past
   pub bytes : (i : ℕ) → buffer b p i ≡ slice_index (answer b.tpm past command) i
 
 -- the event of the worker's step at each stage
-abbrev next_event : Stage → Event
+abbrev next_event : JobStage → Event
 next_event Waiting = Claim
 next_event Claimed = Sent
 next_event HasSent = Exec
-next_event HasRun = Finish Done
+next_event HasHeader = Finish Done
 
-turn-event : (stage : Stage) (x : Turning) (p : History) → x.held ≡ false → x.in_time ≡ false → with_event (Some Work) (turn_at stage x none_fails) none_fails p ≡ next_event stage ∷ p
+turn-event : (stage : JobStage) (x : WorkerReplyInputs) (p : History) → x.held ≡ false → x.in_time ≡ false → with_event (Some Work) (worker_reply_at stage x none_fails) none_fails p ≡ next_event stage ∷ p
 turn-event Waiting x p held in_time = refl
 turn-event Claimed x p held in_time = rw held refl
 turn-event HasSent x p held in_time = refl
-turn-event HasRun x p held in_time = rw in_time (ends (has_rest x.size) x.number p)
+turn-event HasHeader x p held in_time = rw in_time (ends (has_rest x.size) x.number p)
   where
     ends : (rest : Bool) (n : ℕ) (p : History) → with_event (Some Work) (if rest && false then replied.Lost n else replied.Done n) none_fails p ≡ Finish Done ∷ p
     ends true n p = refl
     ends false n p = refl
 
 -- what a poll leads to at each stage
-abbrev Polled : Base → List Entry → List ℕ → Stage → History → WorldState → Type 0
+abbrev Polled : Snapshot → List Entry → List ℕ → JobStage → History → WorldState → Type 0
 Polled b past command Waiting = Runs b Claimed past command
 Polled b past command Claimed = Runs b HasSent past command
-Polled b past command HasSent = Runs b HasRun past command
-Polled b past command HasRun = Answered b past command
+Polled b past command HasSent = Runs b HasHeader past command
+Polled b past command HasHeader = Answered b past command
 
-rest-at : (b : Base) (p : History) (s end : WorldState) → s ≡ end → IsAfter b p s → phase_of b p ≡ Idle → IsAtRest b p end
+rest-at : (b : Snapshot) (p : History) (s end : WorldState) → s ≡ end → IsBusAfter b p s → phase_of b p ≡ Idle → IsAtRest b p end
 rest-at b p s end is after idle = record { after = rw (← is) after; idle = idle }
 
 abbrev poll : ℕ → Exchange
 poll value = register_read 0x4C value
 
-module _ (b : Base) (past : List Entry) (command : List ℕ) where
+module _ (b : Snapshot) (past : List Entry) (command : List ℕ) where
   -- a poll while the command runs
-  polled-at : (stage : Stage) (p : History) (s next : WorldState) (value : ℕ) → Runs b stage past command p s → Leads s (poll value).access value next → IsAfter b (next_event stage ∷ Read (poll value).access value ∷ p) next × (value ≡ 1)
+  polled-at : (stage : JobStage) (p : History) (s next : WorldState) (value : ℕ) → Runs b stage past command p s → Leads s (poll value).access value next → IsBusAfter b (next_event stage ∷ Read (poll value).access value ∷ p) next × (value ≡ 1)
   polled-at stage p s next value runs leads =
-      let turned : after_turn b (Read (poll value).access value ∷ p) ≡ next_event stage ∷ Read (poll value).access value ∷ p = rw (runs.at.executing, runs.at.reached) (turn-event stage (turning_of b (Read (poll value).access value ∷ p)) (Read (poll value).access value ∷ p) runs.held runs.in_time) in
-      let after : IsAfter b (next_event stage ∷ Read (poll value).access value ∷ p) next = subst (λ (h : History). IsAfter b h next) turned (leads b p runs.after) in
-      let shown : number_at (shows b p) 0x4C 4 ≡ 1 = rw runs.at.executing refl in
+      let turned : after_turn b (Read (poll value).access value ∷ p) ≡ next_event stage ∷ Read (poll value).access value ∷ p = rw (runs.at.executing, runs.at.reached) (turn-event stage (worker_reply_inputs b (Read (poll value).access value ∷ p)) (Read (poll value).access value ∷ p) runs.held runs.in_time) in
+      let after : IsBusAfter b (next_event stage ∷ Read (poll value).access value ∷ p) next = subst (λ (h : History). IsBusAfter b h next) turned (leads b p runs.after) in
+      let shown : little_endian_at (shown_byte b p) 0x4C 4 ≡ 1 = rw runs.at.executing refl in
       (after, after.legal.0.1.1 ∙ shown)
 
-  polled : (stage : Stage) (p : History) (s next : WorldState) (value : ℕ) → Runs b stage past command p s → Leads s (poll value).access value next → Polled b past command stage (next_event stage ∷ Read (poll value).access value ∷ p) next × (value ≡ 1)
+  polled : (stage : JobStage) (p : History) (s next : WorldState) (value : ℕ) → Runs b stage past command p s → Leads s (poll value).access value next → Polled b past command stage (next_event stage ∷ Read (poll value).access value ∷ p) next × (value ≡ 1)
   polled Waiting p s next value runs leads =
       let is = polled-at Waiting p s next value runs leads in
       (record { after = is.0; at = record { executing = runs.at.executing; reached = refl }; held = runs.held; in_time = runs.in_time; last = runs.last; done = runs.done }, is.1)
@@ -91,8 +91,8 @@ module _ (b : Base) (past : List Entry) (command : List ℕ) where
   polled HasSent p s next value runs leads =
       let is = polled-at HasSent p s next value runs leads in
       (record { after = is.0; at = record { executing = runs.at.executing; reached = refl }; held = runs.held; in_time = runs.in_time; last = runs.last; done = runs.done }, is.1)
-  polled HasRun p s next value runs leads =
-      let is = polled-at HasRun p s next value runs leads in (
+  polled HasHeader p s next value runs leads =
+      let is = polled-at HasHeader p s next value runs leads in (
         record {
           after = is.0;
           phase = rw runs.at.executing refl;
@@ -106,15 +106,15 @@ module _ (b : Base) (past : List Entry) (command : List ℕ) where
   ended : (p : History) (s next : WorldState) (value : ℕ) → Answered b past command p s → Leads s (poll value).access value next → Answered b past command (Read (poll value).access value ∷ p) next × (value ≡ 0)
   ended p s next value answered leads =
       let turned : after_turn b (Read (poll value).access value ∷ p) ≡ Read (poll value).access value ∷ p = rw answered.phase refl in
-      let after : IsAfter b (Read (poll value).access value ∷ p) next = subst (λ (h : History). IsAfter b h next) turned (leads b p answered.after) in
-      let shown : number_at (shows b p) 0x4C 4 ≡ 0 = rw answered.phase refl in
+      let after : IsBusAfter b (Read (poll value).access value ∷ p) next = subst (λ (h : History). IsBusAfter b h next) turned (leads b p answered.after) in
+      let shown : little_endian_at (shown_byte b p) 0x4C 4 ≡ 0 = rw answered.phase refl in
       (record { after = after; phase = answered.phase; done = answered.done; bytes = answered.bytes }, after.legal.1.1 ∙ shown)
 
   -- another read after it
   answered-read : (p : History) (s next : WorldState) (offset size value : ℕ) → (offset == 0x4C) ≡ false → Answered b past command p s → Leads s (reading offset size value).access value next
-      → Answered b past command (Read (reading offset size value).access value ∷ p) next × (value ≡ number_at (shows b p) offset size)
+      → Answered b past command (Read (reading offset size value).access value ∷ p) next × (value ≡ little_endian_at (shown_byte b p) offset size)
   answered-read p s next offset size value elsewhere answered leads =
-      let after : IsAfter b (Read (reading offset size value).access value ∷ p) next = rw elsewhere at (leads b p answered.after) in
+      let after : IsBusAfter b (Read (reading offset size value).access value ∷ p) next = rw elsewhere at (leads b p answered.after) in
       (record { after = after; phase = answered.phase; done = answered.done; bytes = answered.bytes }, after.legal.1.1)
 
   -- four polls see the command run
@@ -132,7 +132,7 @@ module _ (b : Base) (past : List Entry) (command : List ℕ) where
       let one = polled Waiting p s r.0 v1 runs r.1 in
       let two = polled Claimed _ r.0 r.2.0 v2 one.0 r.2.1 in
       let three = polled HasSent _ r.2.0 r.2.2.0 v3 two.0 r.2.2.1 in
-      let last = polled HasRun _ r.2.2.0 r.2.2.2.0 v4 three.0 r.2.2.2.1 in
+      let last = polled HasHeader _ r.2.2.0 r.2.2.2.0 v4 three.0 r.2.2.2.1 in
       record { first = one.1; second = two.1; third = three.1; fourth = last.1; middle = r.2.2.2.0; found = record { history = _; holds = last.0 }; reaches = r.2.2.2.2 }
 
   not_yet : {A : Type 0} (v : ℕ) → v ≡ 0 → v ≡ 1 → A
@@ -168,7 +168,7 @@ module _ (b : Base) (past : List Entry) (command : List ℕ) where
   not_late (v1 ∷ v2 ∷ v3 ∷ v4 ∷ []) p s end many all runs r = omega arith
 
   -- a byte of the buffer as it reads
-  byte-shown : (p : History) (offset k value : ℕ) → offset ≡ 0x80 + k → phase_of b p ≡ Completion → value ≡ number_at (shows b p) offset 1 → value ≡ buffer b p k
+  byte-shown : (p : History) (offset k value : ℕ) → offset ≡ 0x80 + k → phase_of b p ≡ Completion → value ≡ little_endian_at (shown_byte b p) offset 1 → value ≡ buffer b p k
   byte-shown p offset k value from phase is =
       let below : nat_lt offset 0x80 ≡ false = grind (arith, nat_tests) in
       let place : offset - 0x80 ≡ k = omega arith in
@@ -192,7 +192,7 @@ module _ (b : Base) (past : List Entry) (command : List ℕ) where
       → Found (Answered b past command) end × (ctrl_sts ≡ 0) × (n ≡ length (answer b.tpm past command))
   sized p s end ctrl_sts n small response answered r =
       let one = answered-read p s r.0 0x44 4 ctrl_sts refl answered r.1 in
-      let shown : number_at (shows b p) 0x44 4 ≡ 0 = rw answered.phase refl in
+      let shown : little_endian_at (shown_byte b p) 0x44 4 ≡ 0 = rw answered.phase refl in
       let rest = bytes-read (number n) (Read (register_read 0x44 ctrl_sts).access ctrl_sts ∷ p) r.0 end 0x82 2 refl one.0 r.2 in
       let field : take 4 (drop 2 (answer b.tpm past command)) ≡ bytes_at (slice_index (answer b.tpm past command)) 2 4 = take-drop-bytes_at (answer b.tpm past command) 2 4 (omega (arith, response.head)) in
       let same : number n ≡ take 4 (drop 2 (answer b.tpm past command)) = rest.1 ∙ sym field in
@@ -215,10 +215,10 @@ module _ (b : Base) (past : List Entry) (command : List ℕ) where
       )
 
 -- no command is prepared, so one may begin
-resting-stands : (b : Base) (p : History) (s : WorldState) → IsAtRest b p s → Stands b (resting b p) p s
-resting-stands b p s rest = record { after = rest.after; tells = record { phase = rest.idle; granted = refl; cancel = refl; past = refl } }
+resting-stands : (b : Snapshot) (p : History) (s : WorldState) → IsAtRest b p s → Stands b (resting b p) p s
+resting-stands b p s rest = record { after = rest.after; says = record { phase = rest.idle; granted = refl; cancel = refl; past = refl } }
 
-module _ (b : Base) (p : History) (s : WorldState) (command : List ℕ) (sized_well : IsWellSized command) (small : (i : ℕ) → slice_index command i < 256) (rest : IsAtRest b p s) where
+module _ (b : Snapshot) (p : History) (s : WorldState) (command : List ℕ) (sized_well : IsWellSized command) (small : (i : ℕ) → slice_index command i < 256) (rest : IsAtRest b p s) where
   -- the command ran, and then these accesses were made
   ran : (new : WorldState) (polls : ℕ) (end : List Exchange) → RunsThen Leads s command polls end new → (middle : WorldState) × Found (Answered b (executed b p) command) middle × Reaches Leads middle end new
   ran new polls end runs =
@@ -229,7 +229,7 @@ module _ (b : Base) (p : History) (s : WorldState) (command : List ℕ) (sized_w
       (last.0, waited b (executed b p) command seen.busy begun.history parts.0 last.0 runs.waiting.busy begun.holds parts.2, last.2)
 
   -- a call that answers read the answer
-  pub called : (new : WorldState) (polls : ℕ) (bytes : List ℕ) → length bytes ≤ 3968 → IsResponse (answer b.tpm (executed b p) command) → Answers Leads s command polls bytes new → Calls b p command bytes new
+  pub called : (new : WorldState) (polls : ℕ) (bytes : List ℕ) → length bytes ≤ 3968 → IsResponse (answer b.tpm (executed b p) command) → AnswersCall Leads s command polls bytes new → Calls b p command bytes new
   called new polls bytes short response answers =
       let last = ran new polls (finish_accesses answers.ctrl_sts (number (length bytes)) bytes) answers.runs in
       let parts = reaches-split Leads last.0 new (size_accesses answers.ctrl_sts (number (length bytes))) (collect_accesses bytes) last.2 in
@@ -257,7 +257,7 @@ module _ (b : Base) (p : History) (s : WorldState) (command : List ℕ) (sized_w
   not_failed new polls room (Fatal n) enough ample response narrow well fails =
       let last = ran new polls (register_read 0x44 n ∷ []) fails.1 in
       let one = answered-read b (executed b p) command last.1.history last.0 last.2.0 0x44 4 n refl last.1.holds last.2.1 in
-      let shown : number_at (shows b last.1.history) 0x44 4 ≡ 0 = rw last.1.holds.phase refl in
+      let shown : little_endian_at (shown_byte b last.1.history) 0x44 4 ≡ 0 = rw last.1.holds.phase refl in
       not_set n 1 (one.1 ∙ shown) fails.0
   not_failed new polls room (BadResponse n) enough ample response narrow well fails =
       let last = ran new polls (size_accesses fails.ctrl_sts (number n)) fails.runs in
@@ -265,6 +265,6 @@ module _ (b : Base) (p : History) (s : WorldState) (command : List ℕ) (sized_w
       not_bad n (answer b.tpm (executed b p) command) size.2 response.head response.room ample fails.bad
     where
       not_bad : (n : ℕ) (xs : List ℕ) → n ≡ length xs → 10 ≤ length xs → length xs ≤ 3968 → 3968 ≤ room → IsBadLength room n → ⊥
-      not_bad n xs is least most ample (inl few) = omega arith
+      not_bad n xs is least most ample (inl within_limit) = omega arith
       not_bad n xs is least most ample (inr (inl many)) = omega arith
       not_bad n xs is least most ample (inr (inr many)) = omega arith

@@ -8,7 +8,7 @@ use Rattle.bulk_lines.specs.Generator.{bulk_lines, drawn_lines, state_after}
 use Rattle.bulk_lines.specs.Summaries.{IsSummaryOf, commands_of, moves_of, command_count, move_count}
 use Rattle.bulk_lines.specs.declared.summary.Summary.{Summary}
 use Rattle.vt_world.specs.State.{PairState}
-use Rattle.crb_port.specs.declared.job.Standing.{Standing}
+use Rattle.crb_port.specs.declared.job.PortState.{PortState}
 use Rattle.script_run.specs.Driven.{driven, past_of, written_for}
 use Rattle.script_run.specs.Start.{start}
 use Rattle.script_run.proofs.Prefixes.{DrivenOn}
@@ -44,7 +44,7 @@ counts-is (MoveFail message ∷ lines) = omega (arith, counts-is lines)
 
 -- so the counts are small
 pub counts-small : (all done left : List DriveLine) → all ≡ latest_first done ++ left → length all ≤ 100001 → command_count done + move_count done ≤ 100001
-counts-small all done left is few = omega (arith, few, counts-is done, length-latest_first done, ap length is ∙ length-append (latest_first done) left)
+counts-small all done left is within_limit = omega (arith, within_limit, counts-is done, length-latest_first done, ap length is ∙ length-append (latest_first done) left)
 
 length-drawn : (count at state : ℕ) → length (drawn_lines count at state) ≡ count
 length-drawn zero at state = refl
@@ -54,7 +54,7 @@ pub length-bulk : (seed count : ℕ) → length (bulk_lines seed count) ≡ coun
 length-bulk seed count = omega (arith, length-drawn count 1 seed)
 
 -- one more line is summed up with what is written for it
-pub summed-more : (done : List DriveLine) (line : DriveLine) (was now text : List ℕ) (pair : PairState Standing) (sum : Summary) → was ≡ [] → text ≡ now → (on : DrivenOn done line was now pair)
+pub summed-more : (done : List DriveLine) (line : DriveLine) (was now text : List ℕ) (pair : PairState PortState) (sum : Summary) → was ≡ [] → text ≡ now → (on : DrivenOn done line was now pair)
     → IsSummaryOf sum (command_count done + commands_of line) (move_count done + moves_of line) (driven start.tpm done ++ text) → IsSummaryOf sum (command_count (line ∷ done)) (move_count (line ∷ done)) (driven start.tpm (line ∷ done))
 summed-more done line was now text pair sum none same on summed =
     let output : driven start.tpm done ++ text ≡ driven start.tpm (line ∷ done) = ap (λ t. driven start.tpm done ++ t) (same ∙ on.appended ∙ ap (λ w. w ++ written_for start.tpm (past_of done) line) none) in

@@ -7,7 +7,7 @@ use Rattle.vt_base.specs.declared.status.Status.TheVariants.{Ok, Usage, Script, 
 use lib.Chars.{codes}
 use Rattle.vt_script.specs.Replies.{numbered}
 use Rattle.script_run.specs.Output.{SinkView, Wrote, Breaks, Finishes, Flushes, Tells, TellsBadLine}
-use Rattle.script_run.specs.Run.{Reading, Leaves, Writes, IsCramped, IsShort}
+use Rattle.script_run.specs.Run.{InputReading, Leaves, Writes, IsCramped, IsShort}
 use Rattle.script_run.specs.Loop.{HasWritten}
 use Rattle.script_run.proofs.Writing.{wrote-nothing, wrote-more, breaks-longer, breaks-behind}
 
@@ -23,7 +23,7 @@ pub finishes-next : (status : Status) (a b c : SinkView) (pending text : List �
 finishes-next status a b c pending text first broken = inr (refl, breaks-behind a b c pending text first broken)
 
 -- nothing was begun
-pub leaves-nothing : (a : SinkView) (r : Reading) → Leaves Memory r a a
+pub leaves-nothing : (a : SinkView) (r : InputReading) → Leaves Memory r a a
 leaves-nothing a r = ([], wrote-nothing a, inl refl)
 
 -- what is written so far, and what is written then
@@ -42,14 +42,14 @@ empty [] none = refl
 empty (x ∷ xs) none = absurd (omega arith)
 
 -- the first n lines of a script that isn't too long gave this output, of which some is pending
-module _ (r : Reading) (a b c : SinkView) (n : ℕ) (pending output : List ℕ) (short : IsShort r.input) (gives : r.Gives n output) (w : HasWritten a b pending output) where
+module _ (r : InputReading) (a b c : SinkView) (n : ℕ) (pending output : List ℕ) (short : IsShort r.input) (gives : r.Gives n output) (w : HasWritten a b pending output) where
   -- what is pending can't be written
   leaves-broken : Breaks b c (pending ++ []) → Leaves WriteFault r a c
   leaves-broken broken =
       let all = written-prefix a b c pending [] output w broken in
       (output ++ [], inl (short, (n, rw (append-nil output) gives)), all)
 
-  -- want of memory
+  -- lack of memory
   pub leaves-memory : (result : Status) → Finishes Memory (pending ++ []) result b c → Leaves result r a c
   leaves-memory result (inl (is, more)) = rw is (output ++ [], written-more a b c pending [] output w more, inr (n, rw (append-nil output) gives))
   leaves-memory result (inr (is, broken)) = rw is (leaves-broken broken)
@@ -111,7 +111,7 @@ IsLast Refused = Unit {0}
 IsLast NotYet = Unit {0}
 IsLast status = ⊥
 
-ends-with : (r : Reading) (status : Status) (a b : SinkView) (text : List ℕ) → IsLast status → IsShort r.input → r.Ends status text → Wrote a b text → Leaves status r a b
+ends-with : (r : InputReading) (status : Status) (a b : SinkView) (text : List ℕ) → IsLast status → IsShort r.input → r.Ends status text → Wrote a b text → Leaves status r a b
 ends-with r Ok a b text last short ends wrote = (text, wrote, (short, ends))
 ends-with r Refused a b text last short ends wrote = (text, wrote, (short, ends))
 ends-with r NotYet a b text last short ends wrote = (text, wrote, (short, ends))
@@ -122,17 +122,17 @@ ends-with r WriteFault a b text last short ends wrote = absurd last
 ends-with r Memory a b text last short ends wrote = absurd last
 ends-with r Limit a b text last short ends wrote = absurd last
 
-pub leaves-end : (r : Reading) (status result : Status) (a b : SinkView) (text : List ℕ) → IsLast status → IsShort r.input → r.Ends status text → Finishes status text result a b → Leaves result r a b
+pub leaves-end : (r : InputReading) (status result : Status) (a b : SinkView) (text : List ℕ) → IsLast status → IsShort r.input → r.Ends status text → Finishes status text result a b → Leaves result r a b
 leaves-end r status result a b text last short ends (inl (is, wrote)) = rw is (ends-with r status a b text last short ends wrote)
 leaves-end r status result a b text last short ends (inr (is, broken)) = rw is (text, inr (inr (inr (status, (short, ends)))), broken)
 
-pub leaves-told : (r : Reading) (status result : Status) (a b : SinkView) (text : List ℕ) → IsLast status → IsShort r.input → r.Ends status text → Tells status text result a b → Leaves result r a b
-leaves-told r status result a b text last short ends (inl (is, kept)) = rw (is, kept) (leaves-nothing a r)
-leaves-told r status result a b text last short ends (inr finishes) = leaves-end r status result a b text last short ends finishes
+pub leaves-exact : (r : InputReading) (status result : Status) (a b : SinkView) (text : List ℕ) → IsLast status → IsShort r.input → r.Ends status text → Tells status text result a b → Leaves result r a b
+leaves-exact r status result a b text last short ends (inl (is, kept)) = rw (is, kept) (leaves-nothing a r)
+leaves-exact r status result a b text last short ends (inr finishes) = leaves-end r status result a b text last short ends finishes
 
 -- ---- what a caller may know of a run that left this
 
-pub leaves-writes : (status : Status) (r : Reading) (a b : SinkView) → Leaves status r a b → Writes status r a.written b.written
+pub leaves-writes : (status : Status) (r : InputReading) (a b : SinkView) → Leaves status r a b → Writes status r a.written b.written
 leaves-writes Ok r a b (output, wrote, prints) = (output, wrote.appends, prints)
 leaves-writes Usage r a b (output, wrote, prints) = absurd prints
 leaves-writes Script r a b (output, wrote, prints) = (output, wrote.appends, prints)
@@ -143,7 +143,7 @@ leaves-writes Limit r a b (output, wrote, prints) = (output, wrote.appends, prin
 leaves-writes Refused r a b (output, wrote, prints) = (output, wrote.appends, prints)
 leaves-writes NotYet r a b (output, wrote, prints) = (output, wrote.appends, prints)
 
-pub leaves-known : (status : Status) (r : Reading) (a b : SinkView) → Leaves status r a b → (status ≢ Usage) × (status ≢ ReadFault)
+pub leaves-known : (status : Status) (r : InputReading) (a b : SinkView) → Leaves status r a b → (status ≢ Usage) × (status ≢ ReadFault)
 leaves-known status r a b leaves = (not-usage status leaves, not-read status leaves)
   where
     not-usage : (status : Status) → Leaves status r a b → status ≢ Usage
@@ -152,8 +152,8 @@ leaves-known status r a b leaves = (not-usage status leaves, not-read status lea
     not-read : (status : Status) → Leaves status r a b → status ≢ ReadFault
     not-read status leaves is = absurd (rw is at leaves)
 
-pub leaves-fault : (status : Status) (r : Reading) (a b : SinkView) → Leaves status r a b → status ≡ WriteFault → Rose a.faults b.faults
+pub leaves-fault : (status : Status) (r : InputReading) (a b : SinkView) → Leaves status r a b → status ≡ WriteFault → Rose a.faults b.faults
 leaves-fault status r a b leaves is = (rw is at leaves).2.faults
 
-pub leaves-cramped : (status : Status) (r : Reading) (a b : SinkView) → Leaves status r a b → status ≡ WriteFault → IsCramped r a.room
+pub leaves-cramped : (status : Status) (r : InputReading) (a b : SinkView) → Leaves status r a b → status ≡ WriteFault → IsCramped r a.room
 leaves-cramped status r a b leaves is = let found = rw is at leaves in (found.0, found.1, found.2.room)

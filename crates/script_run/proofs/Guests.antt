@@ -3,7 +3,7 @@ use Rattle.std.proofs.Common.{◌≡◌, ◌∙◌, ℕ, Bool, true, false, List
 use Rattle.std.proofs.lemmas.List.{append-nil}
 use Rattle.std.specs.Prelude.{Option, ◌++◌, length, if◌then◌else◌, Result, Ok, Err, IfOk}
 use Rattle.vt_base.specs.Buffer.{zeros}
-use Rattle.crb_port.specs.declared.job.Standing.{Standing}
+use Rattle.crb_port.specs.declared.job.PortState.{PortState}
 use Rattle.crb_regs.specs.Access.{Access}
 use Rattle.crb_regs.specs.Registers.{is_lost}
 use Rattle.crb_regs.specs.declared.phase.Phase.TheVariants.{Idle, Lost}
@@ -11,16 +11,16 @@ use Rattle.crb_driver.specs.Bus.{Exchange, Reaches}
 use Rattle.crb_regs.specs.Numbers.{ctrl_sts}
 use Rattle.vt_base.specs.Numbers.{number}
 use Rattle.crb_driver.specs.Accesses.{register_read, request_accesses, ready_accesses, size_accesses, finish_accesses}
-use Rattle.crb_driver.specs.Calls.{RunsThen, Answers, Fails, wait_accesses, run_accesses}
+use Rattle.crb_driver.specs.Calls.{RunsThen, AnswersCall, Fails, wait_accesses, run_accesses}
 use Rattle.crb_driver.specs.declared.fault.DriverFault.{DriverFault}
 use Rattle.crb_driver.specs.declared.fault.DriverFault.TheVariants.{Size, NotGranted, NotReady, TimedOut, Fatal, BadResponse}
-use Rattle.crb_history.specs.Base.{Base}
+use Rattle.crb_history.specs.Snapshot.{Snapshot}
 use Rattle.crb_history.specs.Event.{History}
 use Rattle.crb_history.specs.Device.{phase_of}
-use Rattle.move_codec.specs.declared.names.HostName.{HostName}
-use Rattle.move_codec.specs.declared.names.HostName.TheVariants.{A, B}
+use Rattle.vt_base.specs.declared.types.HostName.{HostName}
+use Rattle.vt_base.specs.declared.types.HostName.TheVariants.{A, B}
 use Rattle.move_core.specs.Sides.{is_running}
-use Rattle.vt_seat.specs.Follows.{FollowsIn, Follows, tpm_at}
+use Rattle.vt_seat.specs.Follows.{RefinesOneHost, Refines, tpm_at}
 use Rattle.vt_seat.specs.State.{WorldState}
 use Rattle.vt_seat.specs.Moves.{CanGo}
 use Rattle.vt_seat.specs.Seats.{world_of}
@@ -39,19 +39,19 @@ use Rattle.script_run.proofs.Prefixes.{driven-start}
 
 -- ---- accesses
 
-pub guest-reaches : (xs : List Exchange) (old new : PairState Standing) → Reaches PairLeads old xs new → Reaches Leads (running_world old) xs (running_world new)
+pub guest-reaches : (xs : List Exchange) (old new : PairState PortState) → Reaches PairLeads old xs new → Reaches Leads (running_world old) xs (running_world new)
 guest-reaches [] old new is = ap running_world is
 guest-reaches (x ∷ xs) old new (next, leads, rest) = (running_world next, leads.guest, guest-reaches xs next new rest)
 
-guest-runs : (old new : PairState Standing) (command : List ℕ) (polls : ℕ) (end : List Exchange) → RunsThen PairLeads old command polls end new → RunsThen Leads (running_world old) command polls end (running_world new)
+guest-runs : (old new : PairState PortState) (command : List ℕ) (polls : ℕ) (end : List Exchange) → RunsThen PairLeads old command polls end new → RunsThen Leads (running_world old) command polls end (running_world new)
 guest-runs old new command polls end runs =
     record { seen = runs.seen; waiting = runs.waiting; within = runs.within; reaches = guest-reaches (run_accesses command runs.seen ++ end) old new runs.reaches }
 
-pub guest-answers : (old new : PairState Standing) (command : List ℕ) (polls : ℕ) (response : List ℕ) → Answers PairLeads old command polls response new → Answers Leads (running_world old) command polls response (running_world new)
+pub guest-answers : (old new : PairState PortState) (command : List ℕ) (polls : ℕ) (response : List ℕ) → AnswersCall PairLeads old command polls response new → AnswersCall Leads (running_world old) command polls response (running_world new)
 guest-answers old new command polls response answers =
     record { ctrl_sts = answers.ctrl_sts; usable = answers.usable; runs = guest-runs old new command polls (finish_accesses answers.ctrl_sts (number (length response)) response) answers.runs }
 
-pub guest-fails : (old new : PairState Standing) (command : List ℕ) (polls room : ℕ) (fault : DriverFault) → Fails PairLeads old command polls room fault new → Fails Leads (running_world old) command polls room fault (running_world new)
+pub guest-fails : (old new : PairState PortState) (command : List ℕ) (polls room : ℕ) (fault : DriverFault) → Fails PairLeads old command polls room fault new → Fails Leads (running_world old) command polls room fault (running_world new)
 guest-fails old new command polls room (Size n) fails = (fails.0, ap running_world fails.1)
 guest-fails old new command polls room (NotGranted n) fails = (fails.0, guest-reaches (request_accesses n) old new fails.1)
 guest-fails old new command polls room (NotReady n) fails =
@@ -67,21 +67,21 @@ guest-fails old new command polls room (BadResponse n) fails =
 -- an access leaves the guest where it is
 abbrev pub AccessesKeepPlaces : Type 0
 AccessesKeepPlaces =
-    (piece : ℕ) (s : Placement) (old new : PairState Standing) (a : Access) (value : ℕ) → IsMovable piece s old → PairLeads old a value new → IsMovable piece s new
+    (piece : ℕ) (s : Placement) (old new : PairState PortState) (a : Access) (value : ℕ) → IsMovable piece s old → PairLeads old a value new → IsMovable piece s new
 
 -- so do any accesses
-pub place-kept : AccessesKeepPlaces → (s : Placement) (xs : List Exchange) (old new : PairState Standing) → IsMovable 4096 s old → Reaches PairLeads old xs new → IsMovable 4096 s new
+pub place-kept : AccessesKeepPlaces → (s : Placement) (xs : List Exchange) (old new : PairState PortState) → IsMovable 4096 s old → Reaches PairLeads old xs new → IsMovable 4096 s new
 place-kept keeps s [] old new movable is = subst (IsMovable 4096 s) is movable
 place-kept keeps s (x ∷ xs) old new movable (next, leads, rest) = place-kept keeps s xs next new (keeps 4096 s old next x.access x.value movable leads) rest
 
-pub place-answers : AccessesKeepPlaces → (s : Placement) (command : List ℕ) (polls : ℕ) (response : List ℕ) (old new : PairState Standing) → IsMovable 4096 s old → Answers PairLeads old command polls response new → IsMovable 4096 s new
+pub place-answers : AccessesKeepPlaces → (s : Placement) (command : List ℕ) (polls : ℕ) (response : List ℕ) (old new : PairState PortState) → IsMovable 4096 s old → AnswersCall PairLeads old command polls response new → IsMovable 4096 s new
 place-answers keeps s command polls response old new movable answers =
     place-kept keeps s (run_accesses command answers.runs.seen ++ finish_accesses answers.ctrl_sts (number (length response)) response) old new movable answers.runs.reaches
 
 -- ---- the host whose guest runs
 
 -- a guest runs
-pub runs : (w : PairState Standing) (name : HostName) → running_host w ≡ Some name → IsRunning w
+pub runs : (w : PairState PortState) (name : HostName) → running_host w ≡ Some name → IsRunning w
 runs w name is = by (runs_at_a w) (is_running w.b.host.stage) is
   where
     by : (at_a at_b : Bool) → (if at_a then Some A else (if at_b then Some B else None)) ≡ Some name → (if at_a then true else at_b) ≡ true
@@ -93,7 +93,7 @@ runs w name is = by (runs_at_a w) (is_running w.b.host.stage) is
         none is = cc
 
 -- what it sees is what the guest of its host sees
-pub world-of-running : (w : PairState Standing) (name : HostName) → running_host w ≡ Some name → running_world w ≡ world_of (seat_of name w)
+pub world-of-running : (w : PairState PortState) (name : HostName) → running_host w ≡ Some name → running_world w ≡ world_of (seat_of name w)
 world-of-running w name is = by (runs_at_a w) (is_running w.b.host.stage) name is
   where
     by : (at_a at_b : Bool) (host : HostName) → (if at_a then Some A else (if at_b then Some B else None)) ≡ Some host → (if at_a then world_of w.a else world_of w.b) ≡ world_of (seat_of host w)
@@ -115,16 +115,16 @@ world-of-running w name is = by (runs_at_a w) (is_running w.b.host.stage) name i
 -- ---- moves
 
 -- where no command is under way, the emulator has the TPM of the history
-pub tpm-known : (b : Base) (p : History) (w : WorldState) → IsAtRest b p w → w.link.desk.tpm ≡ Some (tpm_at b p)
+pub tpm-known : (b : Snapshot) (p : History) (w : WorldState) → IsAtRest b p w → w.link.emulator.tpm ≡ Some (tpm_at b p)
 tpm-known b p w rest =
     let h = rest.after.host.history in
     let idle : phase_of b h ≡ Idle = ap (phase_of b) rest.after.same ∙ rest.idle in
     let behind = rest.after.follows.stands.link (ap is_lost idle) in
-    let has : w.link.desk.tpm ≡ Some (tpm_at b h) = rw idle at behind.desk.tpm in
+    let has : w.link.emulator.tpm ≡ Some (tpm_at b h) = rw idle at behind.emulator.tpm in
     has ∙ ap (λ q. Some (tpm_at b q)) rest.after.same
 
 -- a guest that waits for a command can be moved
-pub can-go : (b : Base) (p : History) (w : WorldState) (rest : IsAtRest b p w) → CanGo b rest.after.host w
+pub can-go : (b : Snapshot) (p : History) (w : WorldState) (rest : IsAtRest b p w) → CanGo b rest.after.host w
 can-go b p w rest =
     let idle : phase_of b rest.after.host.history ≡ Idle = ap (phase_of b) rest.after.same ∙ rest.idle in
     record { follows = rest.after.follows; unordered = rest.after.unordered; working = λ lost. idle-lost (subst (λ x. x ≡ Lost) idle lost); unclaimed = rw idle refl }
@@ -133,7 +133,7 @@ can-go b p w rest =
     idle-lost is = cc
 
 -- it waits for the same command wherever it goes on
-pub rests-on : (b : Base) (p : History) (old new : WorldState) (rest : IsAtRest b p old) → FollowsIn b rest.after.host new → IsAtRest b p new
+pub rests-on : (b : Snapshot) (p : History) (old new : WorldState) (rest : IsAtRest b p old) → RefinesOneHost b rest.after.host new → IsAtRest b p new
 rests-on b p old new rest follows = record {
   after = record { host = rest.after.host; follows = follows; unordered = rest.after.unordered; same = rest.after.same; legal = rest.after.legal };
   idle = rest.idle;
@@ -144,8 +144,8 @@ pub begins-with-zeros : start.device.phase ≡ Idle → start.device.content ≡
 unfolding start
 begins-with-zeros idle = refl
 
-pub waits-on : (p : History) (s : Placement) (lost : Option ℕ) (old new : PairState Standing) (waits : IsWaiting p s old) → pieces_at 4096 (running_world old) ≡ pieces_of_move (tpm_at start p)
-    → IsMovable 4096 (moved (pieces_at 4096 (running_world old)) lost s) new → FollowsIn start waits.rest.after.host (running_world new) → IsWaiting p (moved (pieces_of_move (tpm_at start p)) lost s) new
+pub waits-on : (p : History) (s : Placement) (lost : Option ℕ) (old new : PairState PortState) (waits : IsWaiting p s old) → pieces_at 4096 (running_world old) ≡ pieces_of_move (tpm_at start p)
+    → IsMovable 4096 (moved (pieces_at 4096 (running_world old)) lost s) new → RefinesOneHost start waits.rest.after.host (running_world new) → IsWaiting p (moved (pieces_of_move (tpm_at start p)) lost s) new
 waits-on p s lost old new waits pieces movable follows = record {
   rest = rests-on start p (running_world old) (running_world new) waits.rest follows;
   movable = subst (λ (n : ℕ). IsMovable 4096 (moved n lost s) new) pieces movable;
@@ -154,7 +154,7 @@ waits-on p s lost old new waits pieces movable follows = record {
 -- ---- one line
 
 -- a command was done
-pub called_responds : (p : History) (s : Placement) (command response old new : List ℕ) (was w : PairState Standing) → IsWaiting p s was → Calls start p command response (running_world w)
+pub called_responds : (p : History) (s : Placement) (command response old new : List ℕ) (was w : PairState PortState) → IsWaiting p s was → Calls start p command response (running_world w)
     → ((place : Placement) → IsMovable 4096 place was → IsMovable 4096 place w) → new ≡ old ++ hex_line response → Responds p s (Cmd command) old new w
 called_responds p s command response old new was w waits calls keeps appended = record {
   history = calls.history;
@@ -164,12 +164,12 @@ called_responds p s command response old new was w waits calls keeps appended = 
 }
 
 -- the guest was moved
-pub moved_responds : (p : History) (s : Placement) (old : List ℕ) (w : PairState Standing) → IsWaiting p (moved (pieces_of_move (tpm_at start p)) None s) w → Responds p s Move old old w
+pub moved_responds : (p : History) (s : Placement) (old : List ℕ) (w : PairState PortState) → IsWaiting p (moved (pieces_of_move (tpm_at start p)) None s) w → Responds p s Move old old w
 moved_responds p s old w waits = record { history = p; waits = waits; past = refl; appended = sym (append-nil old) }
 
 -- ---- the beginning
 
 -- the hosts that were made wait for the first line
-pub made : {E : Type 0} (r : Result (PairState Standing) E) → IfOk r (λ w. Follows start [] (world_of w.a)) → IfOk r (IsMovable 4096 first_placement) → IfOk r (HasDriven [])
-made (Ok w) follows movable = driven-start w (subst (Follows start []) (sym (world-of-running w A movable.placed.running)) follows) movable
+pub made : {E : Type 0} (r : Result (PairState PortState) E) → IfOk r (λ w. Refines start [] (world_of w.a)) → IfOk r (IsMovable 4096 first_placement) → IfOk r (HasDriven [])
+made (Ok w) follows movable = driven-start w (subst (Refines start []) (sym (world-of-running w A movable.placed.running)) follows) movable
 made (Err fault) follows movable = tt

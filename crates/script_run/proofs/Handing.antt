@@ -9,9 +9,9 @@ use Rattle.vt_script.specs.declared.drive.DriveLine.{DriveLine}
 use Rattle.vt_seat.specs.State.{WorldState}
 use Rattle.vt_world.specs.Pairs.{running_world}
 use Rattle.vt_world.specs.State.{PairState}
-use Rattle.crb_port.specs.declared.job.Standing.{Standing}
-use Rattle.crb_history.specs.Base.{Base}
-use Rattle.crb_history.specs.Replies.{Transcript, line_of}
+use Rattle.crb_port.specs.declared.job.PortState.{PortState}
+use Rattle.crb_history.specs.Snapshot.{Snapshot}
+use Rattle.vt_transcript.specs.Replies.{Transcript, line_of}
 use Rattle.vt_script.specs.Script.{event_of}
 use Rattle.two_seats.specs.Both.{TwoSeats}
 use Rattle.script_run.specs.Ends.{HandsOut, HandsPair, AreDriveLines, HandsWorld, HandsResumed, EndOf, HasEnd, IsWorld, IsPair, end_by}
@@ -24,7 +24,7 @@ use Rattle.script_run.specs.Start.{start}
 use Rattle.script_run.specs.declared.action.Action.{Action}
 use Rattle.script_run.specs.declared.action.Action.TheVariants.{Replay, Drive, Suspend, Resume, Check}
 use Rattle.script_run.proofs.Guests.{world-of-running, tpm-known}
-use Rattle.script_run.proofs.Prefixes.{done-front, stands-all}
+use Rattle.script_run.proofs.Prefixes.{done-prefix, stands-all}
 use Rattle.script_run.specs.declared.ran.End.{End}
 use Rattle.script_run.specs.declared.ran.End.TheVariants.{Nothing, World, Pair}
 
@@ -104,36 +104,36 @@ ends-early IsBad Pends number pending status a b (inr (inl finishes)) = finishes
 ends-early IsBad Pends number pending status a b (inr (inr ends)) = λ ok. fault-is (sym ends.0 ∙ ok)
 
 -- the hosts that did these lines are those that are handed out
-pub have-driven : (lines : List DriveLine) (pair : PairState Standing) → HasDriven lines pair → HaveDriven lines pair
+pub have-driven : (lines : List DriveLine) (pair : PairState PortState) → HasDriven lines pair → HaveDriven lines pair
 have-driven lines pair driven =
     let placement = driven.waits.movable.placed in
     let same = world-of-running pair (placed lines).running placement.running in
     record {
       placement = placement;
-      tpm = ap (λ (w : WorldState). w.link.desk.tpm) (sym same) ∙ tpm-known start driven.history (running_world pair) driven.waits.rest ∙ ap (λ past. Some (values_after start.tpm past)) driven.past;
+      tpm = ap (λ (w : WorldState). w.link.emulator.tpm) (sym same) ∙ tpm-known start driven.history (running_world pair) driven.waits.rest ∙ ap (λ past. Some (values_after start.tpm past)) driven.past;
     }
 
-pub hands-pair : (AreAll : List DriveLine → Type 0) (lines : List DriveLine) (pair : PairState Standing) → AreAll lines → HasDriven lines pair → HandsPair AreAll (Pair pair)
+pub hands-pair : (AreAll : List DriveLine → Type 0) (lines : List DriveLine) (pair : PairState PortState) → AreAll lines → HasDriven lines pair → HandsPair AreAll (Pair pair)
 hands-pair AreAll lines pair all driven = record { lines = lines; pair = pair; is = refl; all = all; driven = have-driven lines pair driven }
 
 -- all lines of the script are done
-pub all-lines : (script rest : List ℕ) (lines : List DriveLine) (pair : PairState Standing) → DrivesAt script rest lines pair → rest ≡ [] → AreDriveLines script lines
+pub all-lines : (script rest : List ℕ) (lines : List DriveLine) (pair : PairState PortState) → DrivesAt script rest lines pair → rest ≡ [] → AreDriveLines script lines
 all-lines script rest lines pair drives end = sym (drives.done ∙ ap (λ (left : List ℕ). in_order spelled lines ++ meanings drive_of left) end ∙ append-nil (in_order spelled lines))
 
 -- ---- a world
 
 -- the world that did all lines is the one that is handed out
-pub hands-world : (b : Base) (script rest : List ℕ) (t : Transcript) (world : TwoSeats) → StandsAt b script rest t world → rest ≡ [] → HandsWorld b script (World world)
+pub hands-world : (b : Snapshot) (script rest : List ℕ) (t : Transcript) (world : TwoSeats) → StandsAt b script rest t world → rest ≡ [] → HandsWorld b script (World world)
 hands-world b script rest t world stands end = record {
   transcript = t;
   world = world;
   is = refl;
-  run = record { lines = done-front event_of line_of script rest t stands.lines; run = stands.runs.run };
+  run = record { lines = done-prefix event_of line_of script rest t stands.lines; run = stands.runs.run };
   all = stands-all b script rest t world stands end;
   follows = stands.runs.follows;
 }
 
--- what goes on from the front of an input
+-- what goes on from the start of an input
 pub resumed-hands : (input : List ℕ) (from : Resumption input) (status : Status) (end : End) → HandsOut (HandsWorld from.base from.script) status end → HandsOut (HandsResumed input) status end
 resumed-hands input from Ok end hands = record { from = from; hands = hands }
 resumed-hands input from _ end none = none

@@ -2,7 +2,7 @@
 use Rattle.std.proofs.Common.{◌≡◌, ℕ, ◌<◌, List, [], ◌∷◌, ◌++◌, length, refl, sym, subst, ◌∙◌, Some, None, inl, inr}
 use Rattle.std.specs.Prelude.{Option, IfSome}
 use lib.Chars.{codes}
-use Rattle.vt_base.specs.Input.{ReadWhole}
+use Rattle.vt_base.specs.Input.{ReadsExactly}
 use Rattle.vt_base.specs.declared.source.Input.{Input}
 use Rattle.vt_base.specs.declared.source.Input.TheVariants as read
 use Rattle.vt_base.specs.declared.status.Status.{Status}
@@ -19,14 +19,14 @@ HoldsFor (read.Whole bytes) P = P bytes.items
 HoldsFor _ P = ⊥
 
 -- the bytes that were read are those that the source had left
-pub of-left : (left : Option (List ℕ)) (limit : ℕ) (found : Input) (P : List ℕ → Type 0) → ReadWhole left limit found → HoldsFor found P → IfSome left P
+pub of-left : (left : Option (List ℕ)) (limit : ℕ) (found : Input) (P : List ℕ → Type 0) → ReadsExactly left limit found → HoldsFor found P → IfSome left P
 of-left None limit (read.Whole bytes) P whole holds = tt
 of-left (Some input) limit (read.Whole bytes) P whole holds = subst P whole.0 holds
 of-left left limit read.TooLong P whole holds = absurd holds
 of-left left limit read.Fault P whole holds = absurd holds
 of-left left limit read.Memory P whole holds = absurd holds
 
-pub of-long : (left : Option (List ℕ)) (limit : ℕ) (P : List ℕ → Type 0) → ReadWhole left limit read.TooLong → ((input : List ℕ) → limit < length input → P input) → IfSome left P
+pub of-long : (left : Option (List ℕ)) (limit : ℕ) (P : List ℕ → Type 0) → ReadsExactly left limit read.TooLong → ((input : List ℕ) → limit < length input → P input) → IfSome left P
 of-long None limit P long holds = tt
 of-long (Some input) limit P long holds = holds input long
 

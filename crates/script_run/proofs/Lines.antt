@@ -2,13 +2,13 @@
 use Rattle.std.proofs.Common.{◌≡◌, ℕ, ◌+◌, List, ◌∷◌, ◌++◌, length, inl, inr}
 use Rattle.std.specs.Prelude.{None}
 use Rattle.vt_base.specs.declared.status.Status.{Status}
-use Rattle.crb_port.specs.declared.job.Standing.{Standing}
+use Rattle.crb_port.specs.declared.job.PortState.{PortState}
 use Rattle.vt_script.specs.Drive.{drive_of}
 use Rattle.vt_script.specs.Script.{lines_of, event_of}
 use Rattle.vt_script.specs.Replies.{reply_text}
 use Rattle.vt_script.specs.declared.drive.DriveLine.{DriveLine}
-use Rattle.crb_history.specs.Base.{Base}
-use Rattle.crb_history.specs.Replies.{Transcript, exchange}
+use Rattle.crb_history.specs.Snapshot.{Snapshot}
+use Rattle.vt_transcript.specs.Replies.{Transcript, exchange}
 use Rattle.two_seats.specs.Both.{TwoSeats}
 use Rattle.vt_world.specs.State.{PairState}
 use Rattle.script_run.specs.Driven.{driven}
@@ -20,11 +20,11 @@ use Rattle.script_run.specs.Loop.{StandsAt, DrivesAt, HasWritten, Replied, Respo
 use Rattle.script_run.proofs.Prefixes.{stands-more, stands-gives, stands-bad, driven-more, drives-more, drives-gives, drives-bad}
 use Rattle.script_run.proofs.Endings.{leaves-bad, leaves-memory, leaves-unflushed, pends-more}
 
-pub follow-ends : (b : Base) (script rest : List ℕ) (t : Transcript) (old : TwoSeats) (text after : List ℕ) (new : TwoSeats) (number : ℕ) (pending : List ℕ) (first before now : SinkView) (status : Status)
+pub follow-ends : (b : Snapshot) (script rest : List ℕ) (t : Transcript) (old : TwoSeats) (text after : List ℕ) (new : TwoSeats) (number : ℕ) (pending : List ℕ) (first before now : SinkView) (status : Status)
     → IsShort script → StandsAt b script rest t old → HasWritten first before pending (texts t) → lines_of rest ≡ text ∷ lines_of after → number ≡ length t + 1
     → EndsHere (event_of text ≡ None) (λ all. Replied b t text pending all new) number pending status before now → Leaves status (followed b script) first now
-follow-ends b script rest t old text after new number pending first before now status short stands w cut count (inl (bad, told)) =
-    leaves-bad (followed b script) first before now (length t) pending (texts t) short (stands-gives b script rest t old stands) w number status (stands-bad b script rest t old text after stands cut bad) count told
+follow-ends b script rest t old text after new number pending first before now status short stands w cut count (inl (bad, exact)) =
+    leaves-bad (followed b script) first before now (length t) pending (texts t) short (stands-gives b script rest t old stands) w number status (stands-bad b script rest t old text after stands cut bad) count exact
 follow-ends b script rest t old text after new number pending first before now status short stands w cut count (inr (inl finishes)) =
     leaves-memory (followed b script) first before now (length t) pending (texts t) short (stands-gives b script rest t old stands) w status finishes
 follow-ends b script rest t old text after new number pending first before now status short stands w cut count (inr (inr (is, all, replied, broken))) =
@@ -33,11 +33,11 @@ follow-ends b script rest t old text after new number pending first before now s
     rw is (leaves-unflushed (followed b script) first before now _ all (texts t ++ reply_text replied.reply) short
     (stands-gives b script after (exchange replied.line replied.reply ∷ t) new further) more broken)
 
-pub drive-ends : (script rest : List ℕ) (lines : List DriveLine) (old : PairState Standing) (text after : List ℕ) (new : PairState Standing) (number : ℕ) (pending : List ℕ) (first before now : SinkView) (status : Status)
+pub drive-ends : (script rest : List ℕ) (lines : List DriveLine) (old : PairState PortState) (text after : List ℕ) (new : PairState PortState) (number : ℕ) (pending : List ℕ) (first before now : SinkView) (status : Status)
     → IsShort script → (drives : DrivesAt script rest lines old) → HasWritten first before pending (driven start.tpm lines) → lines_of rest ≡ text ∷ lines_of after → number ≡ length lines + 1
     → EndsHere (drive_of text ≡ None) (λ all. Responded drives.driven.history (placed lines) text pending all new) number pending status before now → Leaves status (driven_by script) first now
-drive-ends script rest lines old text after new number pending first before now status short drives w cut count (inl (bad, told)) =
-    leaves-bad (driven_by script) first before now (length lines) pending (driven start.tpm lines) short (drives-gives script rest lines old drives) w number status (drives-bad script rest lines old text after drives cut bad) count told
+drive-ends script rest lines old text after new number pending first before now status short drives w cut count (inl (bad, exact)) =
+    leaves-bad (driven_by script) first before now (length lines) pending (driven start.tpm lines) short (drives-gives script rest lines old drives) w number status (drives-bad script rest lines old text after drives cut bad) count exact
 drive-ends script rest lines old text after new number pending first before now status short drives w cut count (inr (inl finishes)) =
     leaves-memory (driven_by script) first before now (length lines) pending (driven start.tpm lines) short (drives-gives script rest lines old drives) w status finishes
 drive-ends script rest lines old text after new number pending first before now status short drives w cut count (inr (inr (is, all, responded, broken))) =

@@ -1,9 +1,9 @@
 -- How far the epochs are after so many lines.
 use Rattle.std.proofs.Common.{◌≡◌, ◌≤◌, ◌<◌, ◌+◌, ◌-◌, ◌^◌, ℕ, suc, Bool, true, false, List, [], ◌∷◌, length, refl, arith}
 use Rattle.std.specs.Prelude.{Option, Some, None, if◌then◌else◌}
-use Rattle.crb_port.specs.declared.job.Standing.{Standing}
-use Rattle.move_codec.specs.declared.names.HostName.{HostName}
-use Rattle.move_codec.specs.declared.names.HostName.TheVariants.{A, B}
+use Rattle.crb_port.specs.declared.job.PortState.{PortState}
+use Rattle.vt_base.specs.declared.types.HostName.{HostName}
+use Rattle.vt_base.specs.declared.types.HostName.TheVariants.{A, B}
 use Rattle.hand_over.specs.Arrival.{loses}
 use Rattle.vt_script.specs.declared.drive.DriveLine.{DriveLine}
 use Rattle.vt_script.specs.declared.drive.DriveLine.TheVariants.{Cmd, Move, MoveFail}
@@ -35,8 +35,8 @@ placed-within (Move ∷ lines) = moved-within (pieces_of_move (tpm_after lines))
 placed-within (MoveFail message ∷ lines) = moved-within (pieces_of_move (tpm_after lines)) (Some message) (placed lines) (length lines) (placed-within lines)
 
 -- so a further line can be done
-pub can-respond : (lines : List DriveLine) (pair : PairState Standing) → HasDriven lines pair → length lines < 2 ^ 64 - 1 → CanRespond pair
-can-respond lines pair driven few = record {
+pub can-respond : (lines : List DriveLine) (pair : PairState PortState) → HasDriven lines pair → length lines < 2 ^ 64 - 1 → CanRespond pair
+can-respond lines pair driven within_limit = record {
   history = driven.history;
   placement = placed lines;
   waits = driven.waits;
@@ -44,5 +44,5 @@ can-respond lines pair driven few = record {
 }
   where
     by : (name : HostName) → top_of name (placed lines) < 2 ^ 64 - 1
-    by A = omega (arith, few, (placed-within lines).a)
-    by B = omega (arith, few, (placed-within lines).b)
+    by A = omega (arith, within_limit, (placed-within lines).a)
+    by B = omega (arith, within_limit, (placed-within lines).b)

@@ -9,21 +9,21 @@ use Rattle.vt_script.specs.declared.reply.Reply.{Reply}
 use Rattle.vt_script.specs.Drive.{drive_of}
 use Rattle.vt_script.specs.Script.{lines_of, event_of}
 use Rattle.tpm_core.specs.Answers.{Entry, values_after}
-use Rattle.crb_history.specs.Base.{Base}
-use Rattle.crb_history.specs.Replies.{Transcript, line_of}
-use Rattle.crb_history.specs.OneHost.{one_told}
+use Rattle.crb_history.specs.Snapshot.{Snapshot}
+use Rattle.vt_transcript.specs.Replies.{Transcript, line_of}
+use Rattle.vt_transcript.specs.OneHost.{one_of_transcript}
 use Rattle.script_run.specs.Calls.{IsWaiting, Responds}
 use Rattle.script_run.specs.Driven.{driven as driven_text, past_of, past_with, written_for}
 use Rattle.script_run.specs.Placed.{pieces_of_move, placed_by, placed}
-use Rattle.crb_history.specs.Replies.{exchange}
-use Rattle.vt_seat.specs.Follows.{Follows}
+use Rattle.vt_transcript.specs.Replies.{exchange}
+use Rattle.vt_seat.specs.Follows.{Refines}
 use Rattle.two_hosts.specs.Hosts.{hosts_after}
 use Rattle.two_seats.specs.Both.{TwoSeats, StepsBoth, RunsTo}
 use Rattle.vt_world.specs.Pairs.{running_world}
 use Rattle.vt_world.specs.State.{PairState}
 use Rattle.vt_world.specs.Placement.{first_placement}
 use Rattle.vt_world.specs.Movable.{IsMovable}
-use Rattle.crb_port.specs.declared.job.Standing.{Standing}
+use Rattle.crb_port.specs.declared.job.PortState.{PortState}
 use Rattle.script_run.specs.Start.{start, piece}
 use Rattle.script_run.specs.Run.{meanings, in_order, spelled, texts, followed, driven_by}
 use Rattle.script_run.specs.Loop.{AreDone, StandsAt, HasDriven, DrivesAt}
@@ -32,9 +32,9 @@ length-in_order : {A B : Type 0} (f : A → B) (t : List A) → length (in_order
 length-in_order f [] = refl
 length-in_order f (x ∷ t) = grind (arith, common_steps, length-in_order f t)
 
-take-front : {A : Type 0} (xs ys : List A) (n : ℕ) → n ≡ length xs → take n (xs ++ ys) ≡ xs
-take-front [] ys n is = rw is refl
-take-front (x ∷ xs) ys n is = rw is (ap (λ rest. x ∷ rest) (take-front xs ys (length xs) refl))
+take-prefix : {A : Type 0} (xs ys : List A) (n : ℕ) → n ≡ length xs → take n (xs ++ ys) ≡ xs
+take-prefix [] ys n is = rw is refl
+take-prefix (x ∷ xs) ys n is = rw is (ap (λ rest. x ∷ rest) (take-prefix xs ys (length xs) refl))
 
 get-behind : {A : Type 0} (xs ys : List A) (y : A) (n : ℕ) → n ≡ length xs → slice_get (xs ++ y ∷ ys) n ≡ Some y
 get-behind [] ys y n is = rw is refl
@@ -48,8 +48,8 @@ module _ {A L : Type 0} (grammar : List ℕ → Option L) (line : A → Option L
       done ∙ ap (λ ls. in_order line t ++ ls) more ∙ sym (append_assoc (in_order line t) (line x ∷ []) (meanings grammar after))
 
   -- the lines that are done are the first of the script
-  pub done-front : in_order line t ≡ take (length t) (meanings grammar script)
-  done-front = sym (ap (take (length t)) done ∙ take-front (in_order line t) (meanings grammar rest) (length t) (sym (length-in_order line t)))
+  pub done-prefix : in_order line t ≡ take (length t) (meanings grammar script)
+  done-prefix = sym (ap (take (length t)) done ∙ take-prefix (in_order line t) (meanings grammar rest) (length t) (sym (length-in_order line t)))
 
   -- all lines are done
   done-all : rest ≡ [] → length t ≡ length (lines_of script)
@@ -64,11 +64,11 @@ module _ {A L : Type 0} (grammar : List ℕ → Option L) (line : A → Option L
   done-bad text after cut bad =
       rw (done, cut, get-behind (in_order line t) (meanings grammar after) (grammar text) (length t) (sym (length-in_order line t))) (ap Some bad)
 
-pub stands-start : (b : Base) (script : List ℕ) (world : TwoSeats) → RunsTo b piece [] world → StandsAt b script script [] world
+pub stands-start : (b : Snapshot) (script : List ℕ) (world : TwoSeats) → RunsTo b piece [] world → StandsAt b script script [] world
 stands-start b script world runs = record { lines = refl; runs = runs }
 
 -- one more line of a replay
-pub stands-more : (b : Base) (script rest : List ℕ) (t : Transcript) (old new : TwoSeats) (text after : List ℕ) (line : Line) (reply : Reply) → StandsAt b script rest t old → lines_of rest ≡ text ∷ lines_of after → event_of text ≡ Some line
+pub stands-more : (b : Snapshot) (script rest : List ℕ) (t : Transcript) (old new : TwoSeats) (text after : List ℕ) (line : Line) (reply : Reply) → StandsAt b script rest t old → lines_of rest ≡ text ∷ lines_of after → event_of text ≡ Some line
     → StepsBoth b piece (hosts_after b piece t) line reply new → StandsAt b script after (exchange line reply ∷ t) new
 stands-more b script rest t old new text after line reply stands cut is steps = record {
   lines = done-more event_of line_of script rest t stands.lines (exchange line reply) text after cut is;
@@ -76,35 +76,35 @@ stands-more b script rest t old new text after line reply stands cut is steps = 
 }
 
 -- what the lines so far give
-pub stands-gives : (b : Base) (script rest : List ℕ) (t : Transcript) (world : TwoSeats) → StandsAt b script rest t world → (followed b script).Gives (length t) (texts t)
-stands-gives b script rest t world stands = (t, record { lines = done-front event_of line_of script rest t stands.lines; run = stands.runs.run }, refl, refl)
+pub stands-gives : (b : Snapshot) (script rest : List ℕ) (t : Transcript) (world : TwoSeats) → StandsAt b script rest t world → (followed b script).Gives (length t) (texts t)
+stands-gives b script rest t world stands = (t, record { lines = done-prefix event_of line_of script rest t stands.lines; run = stands.runs.run }, refl, refl)
 
-pub stands-all : (b : Base) (script rest : List ℕ) (t : Transcript) (world : TwoSeats) → StandsAt b script rest t world → rest ≡ [] → length t ≡ length (lines_of script)
+pub stands-all : (b : Snapshot) (script rest : List ℕ) (t : Transcript) (world : TwoSeats) → StandsAt b script rest t world → rest ≡ [] → length t ≡ length (lines_of script)
 stands-all b script rest t world stands end = done-all event_of line_of script rest t stands.lines end
 
-pub stands-bad : (b : Base) (script rest : List ℕ) (t : Transcript) (world : TwoSeats) (text after : List ℕ) → StandsAt b script rest t world → lines_of rest ≡ text ∷ lines_of after → event_of text ≡ None → (followed b script).IsBad (length t)
+pub stands-bad : (b : Snapshot) (script rest : List ℕ) (t : Transcript) (world : TwoSeats) (text after : List ℕ) → StandsAt b script rest t world → lines_of rest ≡ text ∷ lines_of after → event_of text ≡ None → (followed b script).IsBad (length t)
 stands-bad b script rest t world text after stands cut bad = done-bad event_of line_of script rest t stands.lines text after cut bad
 
-pub driven-start : (pair : PairState Standing) → Follows start [] (running_world pair) → IsMovable 4096 first_placement pair → HasDriven [] pair
+pub driven-start : (pair : PairState PortState) → Refines start [] (running_world pair) → IsMovable 4096 first_placement pair → HasDriven [] pair
 unfolding start
 driven-start pair follows movable = record {
   history = [];
   waits = record {
-    rest = record { after = record { host = one_told start []; follows = follows; unordered = refl; same = refl; legal = tt }; idle = refl };
+    rest = record { after = record { host = one_of_transcript start []; follows = follows; unordered = refl; same = refl; legal = tt }; idle = refl };
     movable = movable;
   };
   past = refl;
 }
 
-pub drives-start : (script : List ℕ) (pair : PairState Standing) → HasDriven [] pair → DrivesAt script script [] pair
+pub drives-start : (script : List ℕ) (pair : PairState PortState) → HasDriven [] pair → DrivesAt script script [] pair
 drives-start script pair first = record { done = refl; driven = first }
 
 -- one more line, and what is written for it
-pub record DrivenOn (lines : List DriveLine) (line : DriveLine) (was now : List ℕ) (pair : PairState Standing) : Type 0 where
+pub record DrivenOn (lines : List DriveLine) (line : DriveLine) (was now : List ℕ) (pair : PairState PortState) : Type 0 where
   pub driven : HasDriven (line ∷ lines) pair
   pub appended : now ≡ was ++ written_for start.tpm (past_of lines) line
 
-pub driven-more : (lines : List DriveLine) (old new : PairState Standing) (line : DriveLine) (was now : List ℕ) (has : HasDriven lines old) → Responds has.history (placed lines) line was now new → DrivenOn lines line was now new
+pub driven-more : (lines : List DriveLine) (old new : PairState PortState) (line : DriveLine) (was now : List ℕ) (has : HasDriven lines old) → Responds has.history (placed lines) line was now new → DrivenOn lines line was now new
 driven-more lines old new line was now has responds = record {
   driven = record {
     history = responds.history;
@@ -114,14 +114,14 @@ driven-more lines old new line was now has responds = record {
   appended = responds.appended ∙ ap (λ past. was ++ written_for start.tpm past line) has.past;
 }
 
-pub drives-more : (script rest : List ℕ) (lines : List DriveLine) (old new : PairState Standing) (text after : List ℕ) (line : DriveLine) → DrivesAt script rest lines old → lines_of rest ≡ text ∷ lines_of after → drive_of text ≡ Some line → HasDriven (line ∷ lines) new → DrivesAt script after (line ∷ lines) new
+pub drives-more : (script rest : List ℕ) (lines : List DriveLine) (old new : PairState PortState) (text after : List ℕ) (line : DriveLine) → DrivesAt script rest lines old → lines_of rest ≡ text ∷ lines_of after → drive_of text ≡ Some line → HasDriven (line ∷ lines) new → DrivesAt script after (line ∷ lines) new
 drives-more script rest lines old new text after line drives cut is driven = record { done = done-more drive_of spelled script rest lines drives.done line text after cut is; driven = driven }
 
-pub drives-gives : (script rest : List ℕ) (lines : List DriveLine) (pair : PairState Standing) → DrivesAt script rest lines pair → (driven_by script).Gives (length lines) (driven_text start.tpm lines)
-drives-gives script rest lines pair drives = (lines, done-front drive_of spelled script rest lines drives.done, refl, refl)
+pub drives-gives : (script rest : List ℕ) (lines : List DriveLine) (pair : PairState PortState) → DrivesAt script rest lines pair → (driven_by script).Gives (length lines) (driven_text start.tpm lines)
+drives-gives script rest lines pair drives = (lines, done-prefix drive_of spelled script rest lines drives.done, refl, refl)
 
-pub drives-all : (script rest : List ℕ) (lines : List DriveLine) (pair : PairState Standing) → DrivesAt script rest lines pair → rest ≡ [] → length lines ≡ length (lines_of script)
+pub drives-all : (script rest : List ℕ) (lines : List DriveLine) (pair : PairState PortState) → DrivesAt script rest lines pair → rest ≡ [] → length lines ≡ length (lines_of script)
 drives-all script rest lines pair drives end = done-all drive_of spelled script rest lines drives.done end
 
-pub drives-bad : (script rest : List ℕ) (lines : List DriveLine) (pair : PairState Standing) (text after : List ℕ) → DrivesAt script rest lines pair → lines_of rest ≡ text ∷ lines_of after → drive_of text ≡ None → (driven_by script).IsBad (length lines)
+pub drives-bad : (script rest : List ℕ) (lines : List DriveLine) (pair : PairState PortState) (text after : List ℕ) → DrivesAt script rest lines pair → lines_of rest ≡ text ∷ lines_of after → drive_of text ≡ None → (driven_by script).IsBad (length lines)
 drives-bad script rest lines pair text after drives cut bad = done-bad drive_of spelled script rest lines drives.done text after cut bad

@@ -3,17 +3,17 @@ use Rattle.std.proofs.Common.{◌≡◌, ◌≢◌, ℕ, ◌<◌, List, [], leng
 use Rattle.std.proofs.lemmas.List.{length-append, take-append-drop, append-nil}
 use Rattle.vt_base.specs.declared.status.Status.{Status}
 use Rattle.vt_base.specs.declared.status.Status.TheVariants.{Ok, Usage, Script, ReadFault, WriteFault, Memory, Limit, Refused, NotYet}
-use Rattle.vt_base.specs.declared.words.Malformed.{Malformed}
-use Rattle.vt_base.specs.declared.words.Why.{Why}
-use Rattle.vt_base.specs.declared.words.Why.TheVariants.{Extra}
+use Rattle.vt_base.specs.declared.types.Malformed.{Malformed}
+use Rattle.vt_base.specs.declared.types.Why.{Why}
+use Rattle.vt_base.specs.declared.types.Why.TheVariants.{Extra}
 use Rattle.vt_base.specs.Refusing.{malformed}
-use Rattle.crb_history.specs.Base.{Base}
+use Rattle.crb_history.specs.Snapshot.{Snapshot}
 use Rattle.saved_stream.specs.Streams.{IsStream}
 use Rattle.saved_stream.specs.Refusals.{IsStreamRefused}
 use Rattle.script_run.specs.Output.{SinkView, Tells}
 use Rattle.script_run.specs.Run.{IsShort, PrintsFirst, IsToPrint, Leaves, followed}
 use Rattle.script_run.specs.Saved.{Resumption, ResumesTo, resumed, checked, refused_text, whole_text}
-use Rattle.script_run.proofs.Endings.{leaves-told}
+use Rattle.script_run.proofs.Endings.{leaves-exact}
 
 short_script : (input : List ℕ) (from : Resumption input) → IsShort input → 1048576 < length from.script → ⊥
 short_script input from short long = omega (arith, short, long, ap length from.whole ∙ length-append from.stream from.script)
@@ -53,12 +53,12 @@ resumed-leaves input from WriteFault a b short (all, is, broken) = (all, to_prin
 resumed-leaves input from Usage a b short (output, wrote, nothing) = absurd nothing
 
 -- nothing stands behind the stream
-abbrev pub whole_input : (input : List ℕ) (b : Base) → IsStream input b → Resumption input
+abbrev pub whole_input : (input : List ℕ) (b : Snapshot) → IsStream input b → Resumption input
 whole_input input b is = record { base = b; stream = input; script = []; whole = sym (append-nil input); spells = is }
 
 -- the bytes from a place on do
-abbrev pub front_of : (input : List ℕ) (place : ℕ) (b : Base) → IsStream (take place input) b → Resumption input
-front_of input place b is = record { base = b; stream = take place input; script = drop place input; whole = sym (take-append-drop place input); spells = is }
+abbrev pub prefix_of : (input : List ℕ) (place : ℕ) (b : Snapshot) → IsStream (take place input) b → Resumption input
+prefix_of input place b is = record { base = b; stream = take place input; script = drop place input; whole = sym (take-append-drop place input); spells = is }
 
 -- the fault is at the end of a stream
 pub at_end : (input : List ℕ) (fault : Malformed) → IsStreamRefused fault input → fault.why ≡ Extra → IsStreamRefused (malformed Extra fault.place) input
@@ -66,13 +66,13 @@ at_end input fault refused is = subst (λ (w : Why). IsStreamRefused (malformed 
 
 -- the first bytes are no stream
 pub resumed-refused : (input : List ℕ) (fault : Malformed) (result : Status) (a b : SinkView) → IsShort input → IsStreamRefused fault input → fault.why ≢ Extra → Tells Refused (refused_text fault) result a b → Leaves result (resumed input) a b
-resumed-refused input fault result a b short refused other told =
-    leaves-told (resumed input) Refused result a b (refused_text fault) tt short (fault, (refused, other), refl) told
+resumed-refused input fault result a b short refused other exact =
+    leaves-exact (resumed input) Refused result a b (refused_text fault) tt short (fault, (refused, other), refl) exact
 
 -- ---- a saved stream is looked at
 
-pub checked-whole : (input : List ℕ) (base : Base) (result : Status) (a b : SinkView) → IsShort input → IsStream input base → Tells Ok (whole_text (length input)) result a b → Leaves result (checked input) a b
-checked-whole input base result a b short is told = leaves-told (checked input) Ok result a b (whole_text (length input)) tt short (base, is, refl) told
+pub checked-whole : (input : List ℕ) (base : Snapshot) (result : Status) (a b : SinkView) → IsShort input → IsStream input base → Tells Ok (whole_text (length input)) result a b → Leaves result (checked input) a b
+checked-whole input base result a b short is exact = leaves-exact (checked input) Ok result a b (whole_text (length input)) tt short (base, is, refl) exact
 
 pub checked-refused : (input : List ℕ) (fault : Malformed) (result : Status) (a b : SinkView) → IsShort input → IsStreamRefused fault input → Tells Refused (refused_text fault) result a b → Leaves result (checked input) a b
-checked-refused input fault result a b short refused told = leaves-told (checked input) Refused result a b (refused_text fault) tt short (fault, refused, refl) told
+checked-refused input fault result a b short refused exact = leaves-exact (checked input) Refused result a b (refused_text fault) tt short (fault, refused, refl) exact

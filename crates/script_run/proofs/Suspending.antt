@@ -8,15 +8,15 @@ use Rattle.vt_script.specs.declared.event.Event.{Event as Line}
 use Rattle.vt_script.specs.declared.event.Event.TheVariants.{Access, Work, Ask, Reset, Offer, Deliver, GiveUp, Again, Show, Fail}
 use Rattle.vt_script.specs.declared.reply.Reply.{Reply}
 use Rattle.vt_script.specs.Script.{lines_of, event_of}
-use Rattle.crb_history.specs.Base.{Base}
+use Rattle.crb_history.specs.Snapshot.{Snapshot}
 use Rattle.crb_history.specs.Device.{phase_of}
-use Rattle.crb_history.specs.Plain.{is_plain, ArePlain, plain, plain_history}
-use Rattle.crb_history.specs.Replies.{Transcript, exchange, line_of, history, order_of, IsRun}
-use Rattle.move_codec.specs.declared.names.HostName.TheVariants.{A, B}
+use Rattle.vt_transcript.specs.Plain.{is_plain, ArePlain, plain, plain_history}
+use Rattle.vt_transcript.specs.Replies.{Transcript, exchange, line_of, history, injected_fault_of, IsRun}
+use Rattle.vt_base.specs.declared.types.HostName.TheVariants.{A, B}
 use Rattle.move_core.specs.Sides.{is_running}
 use Rattle.two_hosts.specs.Hosts.{first_hosts}
 use Rattle.two_seats.specs.Both.{TwoSeats, FollowsBoth, running_of}
-use Rattle.vt_seat.specs.Follows.{Follows, Steps}
+use Rattle.vt_seat.specs.Follows.{Refines, StepRefines}
 use Rattle.vt_seat.specs.Seats.{world_of}
 use Rattle.vt_world.specs.Saving.{CanSave, Saves}
 use Rattle.vt_seat.specs.declared.saving.Saved.TheVariants as saved
@@ -26,12 +26,12 @@ use Rattle.script_run.specs.Run.{IsShort, Leaves, in_order, meanings}
 use Rattle.script_run.specs.Saved.{plain_line, plain_event_of, AreLines, SuspendsAt, suspended, not_yet_text}
 use Rattle.script_run.specs.Loop.{SuspendsOn, WritesSaved}
 use Rattle.std.proofs.lemmas.List.{append-nil}
-use Rattle.script_run.proofs.Endings.{leaves-nothing, leaves-end, leaves-told}
-use Rattle.script_run.proofs.Prefixes.{done-front, done-more, done-bad}
+use Rattle.script_run.proofs.Endings.{leaves-nothing, leaves-end, leaves-exact}
+use Rattle.script_run.proofs.Prefixes.{done-prefix, done-more, done-bad}
 
 -- host A at the beginning
-runs_first : (b : Base) (world : TwoSeats) → FollowsBoth b piece (first_hosts b) world → (Follows b [] (world_of world.a)) × (running_of world ≡ Some A)
-runs_first b world f = (record { fit = f.fit; stands = (f.seats A).stands; due = (f.seats A).due }, rw (f.seats A).stage_is refl)
+runs_first : (b : Snapshot) (world : TwoSeats) → FollowsBoth b piece (first_hosts b) world → (Refines b [] (world_of world.a)) × (running_of world ≡ Some A)
+runs_first b world f = (record { fit = f.fit; stands = (f.seats A).stands; calls_to_fault = (f.seats A).calls_to_fault }, rw (f.seats A).stage_is refl)
 
 pub suspends-start : (script : List ℕ) (world : TwoSeats) → FollowsBoth start piece (first_hosts start) world → SuspendsOn script script [] [] world
 suspends-start script world f =
@@ -57,7 +57,7 @@ plain_by (Some (Fail host call)) line is = cc
 
 -- one more line
 pub suspends-more : (script rest : List ℕ) (lines : List Line) (t : Transcript) (old new : TwoSeats) (text after : List ℕ) (line : Line) (reply : Reply) → SuspendsOn script rest lines t old
-    → lines_of rest ≡ text ∷ lines_of after → plain_event_of text ≡ Some line → Steps start t line reply (world_of new.a) → running_of new ≡ running_of old → SuspendsOn script after (line ∷ lines) (exchange line reply ∷ t) new
+    → lines_of rest ≡ text ∷ lines_of after → plain_event_of text ≡ Some line → StepRefines start t line reply (world_of new.a) → running_of new ≡ running_of old → SuspendsOn script after (line ∷ lines) (exchange line reply ∷ t) new
 suspends-more script rest lines t old new text after line reply on cut is steps stays = record {
   done = done-more plain_event_of Some script rest lines on.done line text after cut is;
   plain = (on.plain, plain_by (event_of text) line is);
@@ -69,7 +69,7 @@ suspends-more script rest lines t old new text after line reply on cut is steps 
 
 -- the lines so far give nothing
 pub suspends-gives : (script rest : List ℕ) (lines : List Line) (t : Transcript) (world : TwoSeats) → SuspendsOn script rest lines t world → (suspended script).Gives (length lines) []
-suspends-gives script rest lines t world on = (lines, done-front plain_event_of Some script rest lines on.done, refl, refl)
+suspends-gives script rest lines t world on = (lines, done-prefix plain_event_of Some script rest lines on.done, refl, refl)
 
 -- the first line that isn't in the grammar
 pub suspends-bad : (script rest : List ℕ) (lines : List Line) (t : Transcript) (world : TwoSeats) (text after : List ℕ) → SuspendsOn script rest lines t world → lines_of rest ≡ text ∷ lines_of after → plain_event_of text ≡ None
@@ -86,16 +86,16 @@ idle_works is = cc
 
 -- the host can be saved
 pub can_save : (script rest : List ℕ) (lines : List Line) (t : Transcript) (world : TwoSeats) → SuspendsOn script rest lines t world
-    → ((b : Base) (ls : List Line) (u : Transcript) → ArePlain ls → map line_of u ≡ map Some ls → IsRun b u → u ≡ plain b ls)
-    → ((b : Base) (ls : List Line) → ArePlain ls → order_of (plain b ls) ≡ None)
-    → ((b : Base) (ls : List Line) → ArePlain ls → b.device.phase ≢ Lost → phase_of b (plain_history b ls) ≢ Lost)
+    → ((b : Snapshot) (ls : List Line) (u : Transcript) → ArePlain ls → map line_of u ≡ map Some ls → IsRun b u → u ≡ plain b ls)
+    → ((b : Snapshot) (ls : List Line) → ArePlain ls → injected_fault_of (plain b ls) ≡ None)
+    → ((b : Snapshot) (ls : List Line) → ArePlain ls → b.device.phase ≢ Lost → phase_of b (plain_history b ls) ≢ Lost)
     → CanSave start t (world_of world.a)
 unfolding start
 can_save script rest lines t world on one unordered working =
     let same : t ≡ plain start lines = one start lines t on.plain on.same on.run in
     record {
       follows = on.follows;
-      unordered = ap order_of same ∙ unordered start lines on.plain;
+      unordered = ap injected_fault_of same ∙ unordered start lines on.plain;
       working = λ lost. working start lines on.plain idle_works (ap (λ (u : Transcript). phase_of start (history start u)) (sym same) ∙ lost);
     }
 
@@ -118,13 +118,13 @@ suspends-whole script rest lines t world stream result a b on end one short save
 
 pub suspends-early : (script rest : List ℕ) (lines : List Line) (t : Transcript) (world : TwoSeats) (number : ℕ) (stream : List ℕ) (result : Status) (a b : SinkView) → SuspendsOn script rest lines t world → rest ≡ []
     → t ≡ plain start lines → IsShort script → Saves start t (saved.NotYet number) [] stream → Tells NotYet (not_yet_text number) result a b → Leaves result (suspended script) a b
-suspends-early script rest lines t world number stream result a b on end one short saves told =
+suspends-early script rest lines t world number stream result a b on end one short saves exact =
     let ends : (suspended script).Ends NotYet (not_yet_text number) =
     (lines, suspends-all script rest lines t world on end, subst (λ (u : Transcript). SuspendsAt (history start u) NotYet (not_yet_text number)) one (saves.0, ap not_yet_text saves.1)) in
-    leaves-told (suspended script) NotYet result a b (not_yet_text number) tt short ends told
+    leaves-exact (suspended script) NotYet result a b (not_yet_text number) tt short ends exact
 
 pub suspends-saved : (script rest : List ℕ) (lines : List Line) (t : Transcript) (world : TwoSeats) (result : Status) (a b : SinkView) → SuspendsOn script rest lines t world → rest ≡ []
     → t ≡ plain start lines → IsShort script → WritesSaved start t result a b → Leaves result (suspended script) a b
 suspends-saved script rest lines t world result a b on end one short (inl (stream, saves, finishes)) = suspends-whole script rest lines t world stream result a b on end one short saves finishes
-suspends-saved script rest lines t world result a b on end one short (inr (inl (number, stream, saves, told))) = suspends-early script rest lines t world number stream result a b on end one short saves told
+suspends-saved script rest lines t world result a b on end one short (inr (inl (number, stream, saves, exact))) = suspends-early script rest lines t world number stream result a b on end one short saves exact
 suspends-saved script rest lines t world result a b on end one short (inr (inr (is, kept))) = rw (is, kept) (leaves-nothing a (suspended script))

@@ -104,7 +104,7 @@ third x y z u v w is = cc
 -- some words are those of one run of `bulk` at most
 pub one-seed : (words : List (String Global)) (n m k l : ℕ) → IsBulk n m words → IsBulk k l words → n ≡ k
 one-seed words n m k l first next =
-    decimal_injective n k (omega (arith, first.seed_fits)) (omega (arith, next.seed_fits)) (second _ _ _ _ _ _ (sym first.spelled ∙ next.spelled))
+    decimal_injective n k (omega (arith, first.seed_is_valid)) (omega (arith, next.seed_is_valid)) (second _ _ _ _ _ _ (sym first.spelled ∙ next.spelled))
 
 pub one-count : (words : List (String Global)) (n m k l : ℕ) → IsBulk n m words → IsBulk k l words → m ≡ l
 one-count words n m k l first next =
@@ -114,8 +114,8 @@ one-count words n m k l first next =
 pub task-named : (found : Option Task) (words : List (String Global)) (name seed count : List ℕ) → map string_bytes words ≡ name ∷ seed ∷ count ∷ [] → name ≡ codes "bulk"
     → IfSome found (λ task. (n : ℕ) × (m : ℕ) × (task ≡ Bulk n m) × (seed ≡ decimal n) × (count ≡ decimal m) × (n ≤ 2 ^ 64 - 1) × (m ≤ 100000)) → IfSome found (λ task. IsTask task words)
 task-named None words name seed count is first named = named
-task-named (Some task) words name seed count is first (n, m, same, next, last, seed_fits, count_fits) =
-    rw same (record { spelled = is ∙ ap (λ x. x ∷ seed ∷ count ∷ []) first ∙ ap (λ x. codes "bulk" ∷ x ∷ count ∷ []) next ∙ ap (λ x. codes "bulk" ∷ decimal n ∷ x ∷ []) last; seed_fits = seed_fits; count_fits = count_fits })
+task-named (Some task) words name seed count is first (n, m, same, next, last, seed_is_valid, count_fits) =
+    rw same (record { spelled = is ∙ ap (λ x. x ∷ seed ∷ count ∷ []) first ∙ ap (λ x. codes "bulk" ∷ x ∷ count ∷ []) next ∙ ap (λ x. codes "bulk" ∷ decimal n ∷ x ∷ []) last; seed_is_valid = seed_is_valid; count_fits = count_fits })
 
 -- three words
 pub three-words : (words : List (String Global)) (x y z : String Global) → 3 ≤ length words → length words < 4 → x ≡ get_or words 0 x → y ≡ get_or words 1 y → z ≡ get_or words 2 z → map string_bytes words ≡ string_bytes x ∷ string_bytes y ∷ string_bytes z ∷ []

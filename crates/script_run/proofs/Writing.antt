@@ -1,7 +1,7 @@
 -- Texts that are written one after the other.
 use Rattle.std.proofs.Common.{◌≡◌, ℕ, ◌+◌, ◌≤◌, List, [], ◌++◌, length, refl, ap, sym, ◌∙◌, append_assoc, arith}
 use Rattle.std.proofs.lemmas.List.{length-append}
-use Rattle.vt_base.proofs.Known.{Appends-more, Appends-nothing}
+use Rattle.vt_base.proofs.CallsInARow.{Appends-more, Appends-nothing}
 use Rattle.script_run.specs.Output.{SinkView, Wrote, Breaks}
 
 pub wrote-nothing : (a : SinkView) → Wrote a a []
@@ -29,9 +29,9 @@ wrote-more a b c xs ys first next = record {
 -- a prefix of some bytes is a prefix of more
 pub breaks-longer : (a b : SinkView) (xs ys : List ℕ) → Breaks a b xs → Breaks a b (xs ++ ys)
 breaks-longer a b xs ys broken =
-    let front = broken.prefix in
+    let prefix = broken.prefix in
     record {
-      prefix = (front.0, front.1 ++ ys, sym (append_assoc front.0 front.1 ys) ∙ ap (λ z. z ++ ys) front.2, front.3);
+      prefix = (prefix.0, prefix.1 ++ ys, sym (append_assoc prefix.0 prefix.1 ys) ∙ ap (λ z. z ++ ys) prefix.2, prefix.3);
       room = λ fits. broken.room (fits-first xs ys a.room fits);
       faults = broken.faults;
     }

@@ -5,9 +5,9 @@ use Rattle.vt_base.specs.declared.status.Status.TheVariants.{Ok}
 use Rattle.vt_script.specs.Drive.{drive_of}
 use Rattle.vt_script.specs.declared.drive.DriveLine.{DriveLine}
 use Rattle.bulk_lines.specs.Generator.{bulk_lines}
-use Rattle.crb_port.specs.declared.job.Standing.{Standing}
-use Rattle.crb_history.specs.Base.{Base}
-use Rattle.crb_history.specs.Replies.{Transcript}
+use Rattle.crb_port.specs.declared.job.PortState.{PortState}
+use Rattle.crb_history.specs.Snapshot.{Snapshot}
+use Rattle.vt_transcript.specs.Replies.{Transcript}
 use Rattle.two_hosts.specs.Hosts.{hosts_after}
 use Rattle.two_seats.specs.Both.{TwoSeats, FollowsBoth}
 use Rattle.vt_script.specs.Script.{lines_of}
@@ -34,14 +34,14 @@ HandsOut Hands _ end = end ≡ Nothing
 -- the two hosts that did all drive lines
 pub record HandsPair (AreAll : List DriveLine → Type 0) (end : End) : Type 0 where
   pub lines : List DriveLine
-  pub pair : PairState Standing
+  pub pair : PairState PortState
   pub is : end ≡ Pair pair
   pub all : AreAll lines
   pub driven : HaveDriven lines pair
 
 -- The world that did all lines of a script from these values on: each of its two hosts and the messages between them are where the
 -- one run of these lines leads.
-pub record HandsWorld (b : Base) (script : List ℕ) (end : End) : Type 0 where
+pub record HandsWorld (b : Snapshot) (script : List ℕ) (end : End) : Type 0 where
   pub transcript : Transcript
   pub world : TwoSeats
   pub is : end ≡ World world
@@ -70,7 +70,7 @@ abbrev pub IsWorld : End → Type 0
 IsWorld end = (world : TwoSeats) × (end ≡ World world)
 
 abbrev pub IsPair : End → Type 0
-IsPair end = (pair : PairState Standing) × (end ≡ Pair pair)
+IsPair end = (pair : PairState PortState) × (end ≡ Pair pair)
 
 -- whatever the input, an action hands out hosts exactly where it ends well, and of its own kind
 abbrev pub HasEnd : Action → Status → End → Type 0

@@ -2,25 +2,25 @@
 use Rattle.std.specs.Prelude.{◌≡◌, ◌⊎◌, ℕ, List, [], ◌++◌, map, Option, Some}
 use Rattle.vt_base.specs.declared.status.Status.{Status}
 use Rattle.vt_base.specs.declared.status.Status.TheVariants.{Ok, Memory, NotYet, WriteFault}
-use Rattle.crb_port.specs.declared.job.Standing.{Standing}
-use Rattle.move_codec.specs.declared.names.HostName.TheVariants.{A}
+use Rattle.crb_port.specs.declared.job.PortState.{PortState}
+use Rattle.vt_base.specs.declared.types.HostName.TheVariants.{A}
 use Rattle.crb_history.specs.Device.{executed}
 use Rattle.crb_history.specs.Event.{History}
-use Rattle.crb_history.specs.Base.{Base}
-use Rattle.crb_history.specs.Replies.{Transcript, IsRun, line_of}
+use Rattle.crb_history.specs.Snapshot.{Snapshot}
+use Rattle.vt_transcript.specs.Replies.{Transcript, IsRun, line_of}
 use Rattle.vt_script.specs.Drive.{drive_of}
 use Rattle.vt_script.specs.Replies.{reply_text}
 use Rattle.vt_script.specs.Script.{event_of}
 use Rattle.vt_script.specs.declared.drive.DriveLine.{DriveLine}
 use Rattle.vt_script.specs.declared.event.Event.{Event as Line}
 use Rattle.vt_script.specs.declared.reply.Reply.{Reply}
-use Rattle.crb_history.specs.Plain.{ArePlain}
+use Rattle.vt_transcript.specs.Plain.{ArePlain}
 use Rattle.script_run.specs.Saved.{plain_event_of, not_yet_text}
 use Rattle.script_run.specs.Calls.{IsWaiting, Responds}
 use Rattle.script_run.specs.Driven.{past_of}
 use Rattle.script_run.specs.Placed.{placed}
 use Rattle.script_run.specs.Start.{start, piece}
-use Rattle.vt_seat.specs.Follows.{Follows}
+use Rattle.vt_seat.specs.Follows.{Refines}
 use Rattle.vt_seat.specs.Seats.{world_of}
 use Rattle.vt_world.specs.State.{PairState}
 use Rattle.vt_world.specs.Placement.{Placement}
@@ -36,18 +36,18 @@ abbrev pub AreDone : {L : Type 0} → (List ℕ → Option L) → List ℕ → L
 AreDone grammar script rest done = meanings grammar script ≡ done ++ meanings grammar rest
 
 -- the lines of the transcript are done, and they lead the world here
-pub record StandsAt (b : Base) (script rest : List ℕ) (t : Transcript) (world : TwoSeats) : Type 0 where
+pub record StandsAt (b : Snapshot) (script rest : List ℕ) (t : Transcript) (world : TwoSeats) : Type 0 where
   pub lines : AreDone event_of script rest (in_order line_of t)
   pub runs : RunsTo b piece t world
 
 -- the commands of these lines were executed and their moves were made, and the guest waits for the next line
-pub record HasDriven (lines : List DriveLine) (pair : PairState Standing) : Type 0 where
+pub record HasDriven (lines : List DriveLine) (pair : PairState PortState) : Type 0 where
   pub history : History
   pub waits : IsWaiting history (placed lines) pair
   pub past : executed start history ≡ past_of lines
 
 -- these lines are done, and these bytes are left
-pub record DrivesAt (script rest : List ℕ) (lines : List DriveLine) (pair : PairState Standing) : Type 0 where
+pub record DrivesAt (script rest : List ℕ) (lines : List DriveLine) (pair : PairState PortState) : Type 0 where
   pub done : AreDone drive_of script rest (in_order spelled lines)
   pub driven : HasDriven lines pair
 
@@ -63,13 +63,13 @@ pub record SuspendsOn (script rest : List ℕ) (lines : List Line) (t : Transcri
   pub plain : ArePlain lines
   pub same : map line_of t ≡ map Some lines
   pub run : IsRun start t
-  pub follows : Follows start t (world_of world.a)
+  pub follows : Refines start t (world_of world.a)
   pub here : running_of world ≡ Some A
 
 -- ---- one line
 
 -- a line of a replay was done, and its reply is pending behind what was
-pub record Replied (b : Base) (t : Transcript) (text pending now : List ℕ) (new : TwoSeats) : Type 0 where
+pub record Replied (b : Snapshot) (t : Transcript) (text pending now : List ℕ) (new : TwoSeats) : Type 0 where
   pub line : Line
   pub reply : Reply
   pub said : event_of text ≡ Some line
@@ -77,7 +77,7 @@ pub record Replied (b : Base) (t : Transcript) (text pending now : List ℕ) (ne
   pub appended : now ≡ pending ++ reply_text reply
 
 -- a drive line was done, and what is written for it is pending behind what was
-pub record Responded (p : History) (s : Placement) (text pending now : List ℕ) (new : PairState Standing) : Type 0 where
+pub record Responded (p : History) (s : Placement) (text pending now : List ℕ) (new : PairState PortState) : Type 0 where
   pub line : DriveLine
   pub said : drive_of text ≡ Some line
   pub responds : Responds p s line pending now new
@@ -86,7 +86,7 @@ pub record Responded (p : History) (s : Placement) (text pending now : List ℕ)
 abbrev pub GoesOn : (List ℕ → Type 0) → List ℕ → SinkView → SinkView → Type 0
 GoesOn Pends after old new = (now : List ℕ) × Pends now × Flushes old new now after
 
--- the run ends here: at a line that isn't in the grammar, for want of memory, or since what is pending isn't written
+-- the run ends here: at a line that isn't in the grammar, for lack of memory, or since what is pending isn't written
 abbrev pub EndsHere : Type 0 → (List ℕ → Type 0) → ℕ → List ℕ → Status → SinkView → SinkView → Type 0
 EndsHere IsBad Pends number pending status old new =
     (IsBad × TellsBadLine number pending status old new)
@@ -95,8 +95,8 @@ EndsHere IsBad Pends number pending status old new =
 
 -- ---- the end of a suspension
 
--- the saved stream is written, or the number of the command that is claimed and unfinished, or for want of memory nothing
-abbrev pub WritesSaved : Base → Transcript → Status → SinkView → SinkView → Type 0
+-- the saved stream is written, or the number of the command that is claimed and unfinished, or for lack of memory nothing
+abbrev pub WritesSaved : Snapshot → Transcript → Status → SinkView → SinkView → Type 0
 WritesSaved b t status old new =
     ((stream : List ℕ) × Saves b t saved.Whole [] stream × Finishes Ok (stream ++ []) status old new)
     ⊎ (((number : ℕ) × (stream : List ℕ) × Saves b t (saved.NotYet number) [] stream × Tells NotYet (not_yet_text number) status old new)

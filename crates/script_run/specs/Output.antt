@@ -3,7 +3,7 @@ use Rattle.std.specs.Prelude.{◌≡◌, ◌≤◌, ◌⊎◌, ℕ, ◌+◌, Lis
 use Rattle.std.specs.Io.KnownBytes.{Appends}
 use lib.Chars.{codes}
 use Rattle.vt_base.specs.Faults.{Rose}
-use Rattle.vt_base.specs.Output.{AppendsFront}
+use Rattle.vt_base.specs.Output.{AppendsPrefix}
 use Rattle.vt_base.specs.declared.status.Status.{Status}
 use Rattle.vt_base.specs.declared.status.Status.TheVariants.{Memory, Script, WriteFault}
 use Rattle.vt_script.specs.Replies.{numbered}
@@ -25,7 +25,7 @@ pub record Wrote (old new : SinkView) (text : List ℕ) : Type 0 where
 
 -- a write failed behind a prefix of a text, and was counted; a text that the promised room holds doesn't end so
 pub record Breaks (old new : SinkView) (text : List ℕ) : Type 0 where
-  pub prefix : AppendsFront old.written new.written text
+  pub prefix : AppendsPrefix old.written new.written text
   pub room : length text ≤ old.room → ⊥
   pub faults : Rose old.faults new.faults
 
@@ -37,10 +37,10 @@ Finishes status text result old new = ((result ≡ status) × Wrote old new text
 abbrev pub Flushes : SinkView → SinkView → List ℕ → List ℕ → Type 0
 Flushes old new pending after = (written : List ℕ) × Wrote old new written × (written ++ after ≡ pending)
 
--- a last text alone is written, or for want of memory nothing
+-- a last text alone is written, or for lack of memory nothing
 abbrev pub Tells : Status → List ℕ → Status → SinkView → SinkView → Type 0
 Tells status text result old new = ((result ≡ Memory) × (new ≡ old)) ⊎ Finishes status text result old new
 
--- the pending bytes are written with the text of a line that isn't in the grammar, or for want of memory without it
+-- the pending bytes are written with the text of a line that isn't in the grammar, or for lack of memory without it
 abbrev pub TellsBadLine : ℕ → List ℕ → Status → SinkView → SinkView → Type 0
 TellsBadLine number pending result old new = Finishes Memory (pending ++ []) result old new ⊎ Finishes Script (pending ++ numbered (codes "bad line ") number) result old new

@@ -1,6 +1,6 @@
 -- Where drive lines leave the guest. (Own definitions.)
 use Rattle.std.specs.Prelude.{◌≡◌, ℕ, List, [], ◌∷◌, Some, None}
-use Rattle.crb_port.specs.declared.job.Standing.{Standing}
+use Rattle.crb_port.specs.declared.job.PortState.{PortState}
 use Rattle.tpm_core.specs.declared.parts.TpmParts.{TpmParts}
 use Rattle.tpm_core.specs.Answers.{values_after}
 use Rattle.vt_script.specs.declared.drive.DriveLine.{DriveLine}
@@ -31,6 +31,6 @@ placed (line ∷ lines) = placed_by line (pieces_of_move (tpm_after lines)) (pla
 
 -- The two hosts after these lines: one of them runs, both have seen the epochs of the moves, and the TPM behind the wires of the running one executed
 -- the commands.
-pub record HaveDriven (lines : List DriveLine) (pair : PairState Standing) : Type 0 where
+pub record HaveDriven (lines : List DriveLine) (pair : PairState PortState) : Type 0 where
   pub placement : IsPlaced (placed lines) pair
-  pub tpm : (seat_of (placed lines).running pair).link.desk.tpm ≡ Some (tpm_after lines)
+  pub tpm : (seat_of (placed lines).running pair).link.emulator.tpm ≡ Some (tpm_after lines)

@@ -8,8 +8,8 @@ use Rattle.vt_script.specs.Script.{lines_of, event_of}
 use Rattle.vt_script.specs.Replies.{reply_text, numbered}
 use Rattle.vt_script.specs.Drive.{drive_of}
 use Rattle.vt_script.specs.declared.drive.DriveLine.{DriveLine}
-use Rattle.crb_history.specs.Base.{Base}
-use Rattle.crb_history.specs.Replies.{Transcript, line_of}
+use Rattle.crb_history.specs.Snapshot.{Snapshot}
+use Rattle.vt_transcript.specs.Replies.{Transcript, line_of}
 use Rattle.two_hosts.specs.Replies.{IsRun}
 use Rattle.script_run.specs.Driven.{driven}
 use Rattle.script_run.specs.Output.{SinkView, Wrote, Breaks}
@@ -39,13 +39,13 @@ texts [] = []
 texts (x ∷ t) = texts t ++ reply_text x.reply
 
 -- a run from these values, between two hosts, over as many first lines of the script
-pub record IsRunOf (b : Base) (script : List ℕ) (t : Transcript) : Type 0 where
+pub record IsRunOf (b : Snapshot) (script : List ℕ) (t : Transcript) : Type 0 where
   pub lines : in_order line_of t ≡ take (length t) (meanings event_of script)
   pub run : IsRun b piece t
 
 -- An input as a command reads it: the first n lines may give an output, line n may not be in the grammar, and at the end
 -- of the input a status may come with an output.
-pub record Reading : Type 1 where
+pub record InputReading : Type 1 where
   pub input : List ℕ
   pub Gives : ℕ → List ℕ → Type 0
   pub IsBad : ℕ → Type 0
@@ -56,10 +56,10 @@ abbrev pub GivesAll : (ℕ → List ℕ → Type 0) → List ℕ → Status → 
 GivesAll Gives script status output = (status ≡ Ok) × Gives (length (lines_of script)) output
 
 -- as a script that goes on from these values: replies of one device over one TPM, between two hosts
-abbrev pub RepliesTo : Base → List ℕ → ℕ → List ℕ → Type 0
+abbrev pub RepliesTo : Snapshot → List ℕ → ℕ → List ℕ → Type 0
 RepliesTo b script n output = (t : Transcript) × IsRunOf b script t × (length t ≡ n) × (output ≡ texts t)
 
-abbrev pub followed : Base → List ℕ → Reading
+abbrev pub followed : Snapshot → List ℕ → InputReading
 followed b script = record {
   input = script;
   Gives = RepliesTo b script;
@@ -68,7 +68,7 @@ followed b script = record {
 }
 
 -- as a script of `replay`
-abbrev pub replayed : List ℕ → Reading
+abbrev pub replayed : List ℕ → InputReading
 replayed script = followed start script
 
 -- as a script of `drive`: the answers of one TPM
@@ -76,7 +76,7 @@ abbrev pub Responses : List ℕ → ℕ → List ℕ → Type 0
 Responses script n output =
     (lines : List DriveLine) × (in_order spelled lines ≡ take (length lines) (meanings drive_of script)) × (length lines ≡ n) × (output ≡ driven start.tpm lines)
 
-abbrev pub driven_by : List ℕ → Reading
+abbrev pub driven_by : List ℕ → InputReading
 driven_by script = record {
   input = script;
   Gives = Responses script;
@@ -89,28 +89,28 @@ abbrev pub IsShort : List ℕ → Type 0
 IsShort input = length input ≤ 1048576
 
 -- what the first lines give, and nothing else
-abbrev pub PrintsFirst : Reading → List ℕ → Type 0
+abbrev pub PrintsFirst : InputReading → List ℕ → Type 0
 PrintsFirst r output = (n : ℕ) × r.Gives n output
 
 -- what the end of the input gives
-abbrev pub PrintsEnd : Status → Reading → List ℕ → Type 0
+abbrev pub PrintsEnd : Status → InputReading → List ℕ → Type 0
 PrintsEnd status r output = IsShort r.input × r.Ends status output
 
 -- what the lines before the first one give that isn't in the grammar, and its number
-abbrev pub PrintsBadLine : Reading → List ℕ → Type 0
+abbrev pub PrintsBadLine : InputReading → List ℕ → Type 0
 PrintsBadLine r output = IsShort r.input × (n : ℕ) × (before : List ℕ) × r.Gives n before × r.IsBad n
     × (output ≡ before ++ numbered (codes "bad line ") (n + 1))
 
 -- the input is too long, and that alone is said
-abbrev pub PrintsLongInput : Reading → List ℕ → Type 0
+abbrev pub PrintsLongInput : InputReading → List ℕ → Type 0
 PrintsLongInput r output = (1048576 < length r.input) × (output ≡ codes "long input" ++ 10 ∷ [])
 
 -- what was to be written, had the sink not failed
-abbrev pub IsToPrint : Reading → List ℕ → Type 0
+abbrev pub IsToPrint : InputReading → List ℕ → Type 0
 IsToPrint r all = (IsShort r.input × PrintsFirst r all) ⊎ (PrintsBadLine r all ⊎ (PrintsLongInput r all ⊎ ((status : Status) × PrintsEnd status r all)))
 
 -- what is written for an input, by the status
-abbrev pub Prints : Status → Reading → List ℕ → Type 0
+abbrev pub Prints : Status → InputReading → List ℕ → Type 0
 Prints Ok r output = PrintsEnd Ok r output
 Prints Refused r output = PrintsEnd Refused r output
 Prints NotYet r output = PrintsEnd NotYet r output
@@ -122,21 +122,21 @@ Prints WriteFault r output = (rest : List ℕ) × IsToPrint r (output ++ rest)
 Prints Usage r output = ⊥
 
 -- where the output is known, it grows by what the status says
-abbrev pub Writes : Status → Reading → Option (List ℕ) → Option (List ℕ) → Type 0
+abbrev pub Writes : Status → InputReading → Option (List ℕ) → Option (List ℕ) → Type 0
 Writes status r old new = (output : List ℕ) × Appends old new output × Prints status r output
 
 -- some output for the input is longer than the promised room
-abbrev pub IsCramped : Reading → ℕ → Type 0
+abbrev pub IsCramped : InputReading → ℕ → Type 0
 IsCramped r room = (all : List ℕ) × IsToPrint r all × (length all ≤ room → ⊥)
 
 -- what a run leaves in the sink once its input was read
-abbrev pub Leaves : Status → Reading → SinkView → SinkView → Type 0
+abbrev pub Leaves : Status → InputReading → SinkView → SinkView → Type 0
 Leaves WriteFault r old new = (all : List ℕ) × IsToPrint r all × Breaks old new all
 Leaves ReadFault r old new = ⊥
 Leaves status r old new = (output : List ℕ) × Wrote old new output × Prints status r output
 
 -- the input isn't too long, each line is in the grammar, and its end gives nothing but a good end
-pub record IsGood (r : Reading) : Type 0 where
+pub record IsGood (r : InputReading) : Type 0 where
   pub short : IsShort r.input
   pub lines : (n : ℕ) → r.IsBad n → ⊥
   pub ends : (status : Status) (output : List ℕ) → r.Ends status output → status ≡ Ok

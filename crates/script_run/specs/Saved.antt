@@ -4,22 +4,22 @@ use Rattle.std.specs.Fmt.{decimal}
 use lib.Chars.{codes}
 use Rattle.vt_base.specs.declared.status.Status.{Status}
 use Rattle.vt_base.specs.declared.status.Status.TheVariants.{Ok, Refused, NotYet}
-use Rattle.vt_base.specs.declared.words.Malformed.{Malformed}
-use Rattle.vt_base.specs.declared.words.Why.{Why}
-use Rattle.vt_base.specs.declared.words.Why.TheVariants.{Magic, Version, Length, Value, Cut, Extra}
+use Rattle.vt_base.specs.declared.types.Malformed.{Malformed}
+use Rattle.vt_base.specs.declared.types.Why.{Why}
+use Rattle.vt_base.specs.declared.types.Why.TheVariants.{Magic, Version, Length, Value, Cut, Extra}
 use Rattle.vt_script.specs.Replies.{numbered}
 use Rattle.vt_script.specs.Script.{event_of}
 use Rattle.vt_script.specs.declared.event.Event.{Event as Line}
 use Rattle.vt_script.specs.declared.event.Event.TheVariants.{Access, Work, Ask, Reset, Offer, Deliver, GiveUp, Again, Show, Fail}
-use Rattle.crb_history.specs.Base.{Base}
+use Rattle.crb_history.specs.Snapshot.{Snapshot}
 use Rattle.crb_history.specs.Event.{History}
 use Rattle.crb_history.specs.Device.{number_of}
-use Rattle.crb_history.specs.Continued.{base_after, MaySuspend}
-use Rattle.crb_history.specs.Plain.{plain_history}
-use Rattle.crb_history.specs.Replies.{is_under_way}
-use Rattle.saved_stream.specs.Streams.{stream_text, IsStream}
+use Rattle.crb_history.specs.Continued.{snapshot_after, MaySuspend}
+use Rattle.vt_transcript.specs.Plain.{plain_history}
+use Rattle.vt_transcript.specs.Replies.{is_under_way}
+use Rattle.saved_stream.specs.Streams.{encode_stream, IsStream}
 use Rattle.saved_stream.specs.Refusals.{IsStreamRefused}
-use Rattle.script_run.specs.Run.{Reading, meanings, in_order, followed}
+use Rattle.script_run.specs.Run.{InputReading, meanings, in_order, followed}
 use Rattle.script_run.specs.Start.{start}
 
 -- ---- the texts
@@ -70,12 +70,12 @@ AreLines script lines = meanings plain_event_of script ≡ in_order Some lines
 -- the saved stream of the values at the end of the one history that the lines have, or the number of the command that is
 -- claimed and unfinished then
 abbrev pub SuspendsAt : History → Status → List ℕ → Type 0
-SuspendsAt p Ok output = MaySuspend start p × (output ≡ stream_text (base_after start p))
+SuspendsAt p Ok output = MaySuspend start p × (output ≡ encode_stream (snapshot_after start p))
 SuspendsAt p NotYet output = (is_under_way start p ≡ true) × (output ≡ not_yet_text (number_of start p))
 SuspendsAt p status output = ⊥
 
 -- as a script of `suspend`: its lines have no replies
-abbrev pub suspended : List ℕ → Reading
+abbrev pub suspended : List ℕ → InputReading
 suspended script = record {
   input = script;
   Gives = λ n output. (lines : List Line) × (in_order Some lines ≡ take (length lines) (meanings plain_event_of script)) × (length lines ≡ n) × (output ≡ []);
@@ -87,7 +87,7 @@ suspended script = record {
 
 -- the input is a saved stream, which spells these values, and then a script
 pub record Resumption (input : List ℕ) : Type 0 where
-  pub base : Base
+  pub base : Snapshot
   pub stream : List ℕ
   pub script : List ℕ
   pub whole : input ≡ stream ++ script
@@ -101,7 +101,7 @@ abbrev pub ResumesTo : List ℕ → Status → List ℕ → Type 0
 ResumesTo input Refused output = (fault : Malformed) × IsFrontRefused fault input × (output ≡ refused_text fault)
 ResumesTo input status output = (from : Resumption input) × (followed from.base from.script).Ends status output
 
-abbrev pub resumed : List ℕ → Reading
+abbrev pub resumed : List ℕ → InputReading
 resumed input = record {
   input = input;
   Gives = λ n output. (from : Resumption input) × (followed from.base from.script).Gives n output;
@@ -112,11 +112,11 @@ resumed input = record {
 -- ---- check
 
 abbrev pub ChecksTo : List ℕ → Status → List ℕ → Type 0
-ChecksTo input Ok output = (b : Base) × IsStream input b × (output ≡ whole_text (length input))
+ChecksTo input Ok output = (b : Snapshot) × IsStream input b × (output ≡ whole_text (length input))
 ChecksTo input Refused output = (fault : Malformed) × IsStreamRefused fault input × (output ≡ refused_text fault)
 ChecksTo input status output = ⊥
 
-abbrev pub checked : List ℕ → Reading
+abbrev pub checked : List ℕ → InputReading
 checked input = record {
   input = input;
   Gives = λ n output. output ≡ [];

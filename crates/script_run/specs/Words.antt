@@ -38,7 +38,7 @@ begins_well (first ∷ next ∷ rest) = not (first == 43) && not (first == 48)
 -- these words are `bulk`, a number of 64 bits and a count of at most 100000, both in decimal without a sign or a leading zero
 pub record IsBulk (seed count : ℕ) (words : List (String Global)) : Type 0 where
   pub spelled : map string_bytes words ≡ codes "bulk" ∷ decimal seed ∷ decimal count ∷ []
-  pub seed_fits : seed ≤ 2 ^ 64 - 1
+  pub seed_is_valid : seed ≤ 2 ^ 64 - 1
   pub count_fits : count ≤ 100000
 
 -- these words are those of the task

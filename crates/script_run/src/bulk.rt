@@ -48,7 +48,7 @@ fn sum_up(
     pair: &mut Pair<PlainPort>,
     into: &mut Vec<u8>,
 ) -> Result<(), AllocError>
-    requires few { length lines ≤ 100001 }
+    requires within_limit { length lines ≤ 100001 }
     requires first { HasDriven [] pair.old }
     ensures text { OnOk result (into.new.items ≡ into.old.items ++ summary_of (latest_first lines)) }
     ensures driven { OnOk result (HasDriven (latest_first lines) pair.new) }
@@ -65,7 +65,7 @@ fn do_lines(
     pair: &mut Pair<PlainPort>,
     summary: &mut Summary,
 ) -> Result<(), AllocError>
-    requires few { length lines ≤ 100001 }
+    requires within_limit { length lines ≤ 100001 }
     requires first { HasDriven [] pair.old }
     requires empty { IsSummaryOf summary.old 0 0 [] }
     ensures summed { OnOk result (IsSummaryOf summary.new (command_count (latest_first lines)) (move_count (latest_first lines)) (driven start.tpm (latest_first lines))) }

@@ -3,7 +3,7 @@
 ghost use Rattle.std.specs.Prelude.{◌≡◌, ◌≤◌, None, IfNone, IfSome, OnOk, OnErr, length, take};
 ghost use Rattle.tpm_frame.specs.Sizes.{IsWellSized};
 ghost use Rattle.vt_script.specs.Drive.{IsDriveLine, drive_of};
-ghost use Rattle.crb_history.specs.Base.{Base};
+ghost use Rattle.crb_history.specs.Snapshot.{Snapshot};
 ghost use Rattle.crb_history.specs.Event.{History};
 ghost use Rattle.vt_seat.specs.Follows.{tpm_at};
 ghost use Rattle.vt_world.specs.Pairs.{IsRunning, running_world};
@@ -24,7 +24,6 @@ use crate::start::start_pair;
 use crb_driver::Driver;
 use crb_port::PlainPort;
 use std::alloc::{AllocError, Global};
-use tpm_core::laws::answers_are_responses;
 use vt_base::{BUFFER_LENGTH, Sink, Status};
 use vt_script::{DriveLine, parse_drive, print_response};
 use vt_world::{Pair, laws};
@@ -91,7 +90,7 @@ fn drive_line<K: Sink>(
 }
 
 /// Does the command of a line and appends the text of its response, or moves the guest and appends nothing. An `Err` is
-/// want of memory.
+/// lack of memory.
 #[tactic(auto, using(crate::proofs::Guests::moved_responds))]
 pub fn respond(
     alloc: Global,
@@ -120,14 +119,14 @@ pub fn respond(
 fn call(pair: &mut Pair<PlainPort>, command: &[u8], into: &mut [u8]) -> usize
     requires sized { IsWellSized command.now }
     requires room { BUFFER_LENGTH ≤ length into.old }
-    requires rests { (b : Base) × (p : History) × IsAtRest b p (running_world pair.old) }
+    requires rests { (b : Snapshot) × (p : History) × IsAtRest b p (running_world pair.old) }
     requires runs { IsRunning pair.old }
-    ensures calls { (b : Base) (p : History) → IsAtRest b p (running_world pair.old)
+    ensures calls { (b : Snapshot) (p : History) → IsAtRest b p (running_world pair.old)
         → Calls b p command.now (take result into.new) (running_world pair.new) }
     ensures within { result ≤ length into.new }
     ensures place { (s : Placement) → IsMovable 4096 s pair.old → IsMovable 4096 s pair.new }
 {
-    answers_are_responses();
+    tpm_core::laws::answers_are_responses();
     laws::accesses_keep_the_placement();
     match Driver::new().call(pair, command, into, POLLS) {
         Ok(count) => count,

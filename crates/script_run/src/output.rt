@@ -41,7 +41,7 @@ pub fn flush_if_full<K: Sink>(pending: &mut Vec<u8>, sink: &mut K) -> Result<(),
 
 /// Writes the pending bytes, and the number of a line that isn't in the grammar.
 pub fn bad_line<K: Sink>(alloc: Global, number: u64, pending: &[u8], sink: &mut K) -> Status
-    ensures tells { TellsBadLine number pending.now result (seen (K.written sink.old) (K.room sink.old) (K.faults sink.old))
+    ensures says { TellsBadLine number pending.now result (seen (K.written sink.old) (K.room sink.old) (K.faults sink.old))
         (seen (K.written sink.new) (K.room sink.new) (K.faults sink.new)) }
 {
     match format!(in alloc; "bad line {number}\n") {
@@ -52,7 +52,7 @@ pub fn bad_line<K: Sink>(alloc: Global, number: u64, pending: &[u8], sink: &mut 
 
 /// Writes the number of the command that is claimed and unfinished.
 pub fn not_yet<K: Sink>(alloc: Global, number: u64, sink: &mut K) -> Status
-    ensures tells { Tells Status.NotYet (not_yet_text number) result (seen (K.written sink.old) (K.room sink.old) (K.faults sink.old))
+    ensures says { Tells Status.NotYet (not_yet_text number) result (seen (K.written sink.old) (K.room sink.old) (K.faults sink.old))
         (seen (K.written sink.new) (K.room sink.new) (K.faults sink.new)) }
 {
     match format!(in alloc; "not yet {number}\n") {
@@ -63,7 +63,7 @@ pub fn not_yet<K: Sink>(alloc: Global, number: u64, sink: &mut K) -> Status
 
 /// Writes how many bytes a saved stream has.
 pub fn whole<K: Sink>(alloc: Global, size: usize, sink: &mut K) -> Status
-    ensures tells { Tells Status.Ok (whole_text size) result (seen (K.written sink.old) (K.room sink.old) (K.faults sink.old))
+    ensures says { Tells Status.Ok (whole_text size) result (seen (K.written sink.old) (K.room sink.old) (K.faults sink.old))
         (seen (K.written sink.new) (K.room sink.new) (K.faults sink.new)) }
 {
     match format!(in alloc; "saved stream {size} bytes\n") {
@@ -74,7 +74,7 @@ pub fn whole<K: Sink>(alloc: Global, size: usize, sink: &mut K) -> Status
 
 /// Writes why, and where, bytes are no saved stream.
 pub fn refused<K: Sink>(alloc: Global, fault: &Malformed, sink: &mut K) -> Status
-    ensures tells { Tells Status.Refused (refused_text fault.now) result (seen (K.written sink.old) (K.room sink.old) (K.faults sink.old))
+    ensures says { Tells Status.Refused (refused_text fault.now) result (seen (K.written sink.old) (K.room sink.old) (K.faults sink.old))
         (seen (K.written sink.new) (K.room sink.new) (K.faults sink.new)) }
 {
     let word = word_of(fault.why);

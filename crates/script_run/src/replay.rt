@@ -1,7 +1,7 @@
 //! The command `replay`, and any other that does the lines of a script: a reply to each line.
 ghost use Rattle.std.specs.Prelude.{◌≡◌, ◌≢◌, ◌≤◌, [], None, IfNone, IfSome};
-ghost use Rattle.crb_history.specs.Base.{Base};
-ghost use Rattle.crb_history.specs.Replies.{Transcript};
+ghost use Rattle.crb_history.specs.Snapshot.{Snapshot};
+ghost use Rattle.vt_transcript.specs.Replies.{Transcript};
 ghost use Rattle.vt_script.specs.Script.{event_of};
 ghost use Rattle.two_hosts.specs.Hosts.{first_hosts, hosts_after};
 ghost use Rattle.two_seats.specs.Both.{FollowsBoth};
@@ -16,7 +16,6 @@ use crate::output::{bad_line, flush_if_full, write_and_end};
 use crate::ran::{End, Ran};
 use crate::start::start;
 use std::alloc::Global;
-use two_seats::laws::steps_make_runs;
 use vt_base::{Sink, Status};
 use vt_script::{parse_line, print_reply};
 use vt_world::World;
@@ -40,12 +39,12 @@ pub fn replay<K: Sink>(alloc: Global, script: &[u8], sink: &mut K) -> Ran
 /// Does the lines of a script on a world whose host A has the values of some base, and writes a reply to each.
 pub fn follow<K: Sink>(alloc: Global, first: World, script: &[u8], sink: &mut K) -> Ran
     requires short { IsShort script.now }
-    requires begins { (b : Base) × FollowsBoth b piece (first_hosts b) first }
-    ensures writes { (b : Base) → FollowsBoth b piece (first_hosts b) first → Leaves result.status (followed b script.now) (seen (K.written sink.old) (K.room sink.old) (K.faults sink.old))
+    requires begins { (b : Snapshot) × FollowsBoth b piece (first_hosts b) first }
+    ensures writes { (b : Snapshot) → FollowsBoth b piece (first_hosts b) first → Leaves result.status (followed b script.now) (seen (K.written sink.old) (K.room sink.old) (K.faults sink.old))
         (seen (K.written sink.new) (K.room sink.new) (K.faults sink.new)) }
-    ensures hands_out { (b : Base) → FollowsBoth b piece (first_hosts b) first → HandsOut (HandsWorld b script.now) result.status result.end }
+    ensures hands_out { (b : Snapshot) → FollowsBoth b piece (first_hosts b) first → HandsOut (HandsWorld b script.now) result.status result.end }
 {
-    steps_make_runs();
+    two_seats::laws::steps_make_runs();
     let mut world = first;
     let mut pending = Vec::new(alloc);
     let mut lines = ScriptLines::new(script);
@@ -68,10 +67,10 @@ fn follow_line<K: Sink>(
     pending: &mut Vec<u8>,
     sink: &mut K,
 ) -> Option<Status>
-    ensures goes_on { IfNone result ((b : Base) (t : Transcript) → FollowsBoth b piece (hosts_after b piece t) world.old
+    ensures goes_on { IfNone result ((b : Snapshot) (t : Transcript) → FollowsBoth b piece (hosts_after b piece t) world.old
         → GoesOn (λ now. Replied b t text.now pending.old.items now world.new) pending.new.items (seen (K.written sink.old) (K.room sink.old) (K.faults sink.old))
         (seen (K.written sink.new) (K.room sink.new) (K.faults sink.new))) }
-    ensures ends { IfSome result (λ status. (b : Base) (t : Transcript) → FollowsBoth b piece (hosts_after b piece t) world.old
+    ensures ends { IfSome result (λ status. (b : Snapshot) (t : Transcript) → FollowsBoth b piece (hosts_after b piece t) world.old
         → EndsHere (event_of text.now ≡ None) (λ now. Replied b t text.now pending.old.items now world.new) number pending.old.items status (seen (K.written sink.old) (K.room sink.old) (K.faults sink.old))
         (seen (K.written sink.new) (K.room sink.new) (K.faults sink.new))) }
 {

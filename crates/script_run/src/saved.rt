@@ -9,13 +9,12 @@ ghost use Rattle.saved_stream.specs.Refusals.{IsStreamRefused};
 use crate::output::{refused, whole};
 use crate::ran::{End, Ran};
 use crate::replay::follow;
-use ctrl_client::LARGEST_PIECE;
-use saved_stream::laws::streams_are_told_once;
+use ctrl_model::LARGEST_PIECE;
 use std::alloc::Global;
 use vt_base::{Malformed, Sink, Status, Why};
 use vt_world::{Loaded, World};
 
-/// Goes on from the saved stream at the front of the input: does the lines of the script behind it, and writes a reply
+/// Goes on from the saved stream at the start of the input: does the lines of the script behind it, and writes a reply
 /// to each.
 pub fn resume<K: Sink>(alloc: Global, input: &[u8], sink: &mut K) -> Ran
     requires { IsShort input.now }
@@ -41,7 +40,7 @@ fn resume_in_front<K: Sink>(alloc: Global, fault: Malformed, input: &[u8], sink:
         (seen (K.written sink.new) (K.room sink.new) (K.faults sink.new)) }
     ensures hands_out { HandsOut (HandsResumed input.now) result.status result.end }
 {
-    streams_are_told_once();
+    saved_stream::laws::decoding_is_unique();
     let Why::Extra = fault.why else {
         return Ran {
             status: refused(alloc, &fault, sink),

@@ -6,7 +6,7 @@ ghost use Rattle.script_run.specs.Loop.{HasDriven};
 ghost use Rattle.script_run.specs.Start.{start, piece};
 
 use crb_port::PlainPort;
-use ctrl_client::LARGEST_PIECE;
+use ctrl_model::LARGEST_PIECE;
 use std::alloc::{AllocError, Global};
 use tpm_core::SEED_SIZE;
 use vt_world::{Pair, World};

@@ -1,8 +1,8 @@
 //! The command `suspend`: the lines of a script are done, and the host is saved.
 ghost use Rattle.std.specs.Prelude.{◌≡◌, ◌≢◌, true, IfSome};
-ghost use Rattle.crb_history.specs.Base.{Base};
-ghost use Rattle.crb_history.specs.Plain.{is_plain};
-ghost use Rattle.crb_history.specs.Replies.{Transcript};
+ghost use Rattle.crb_history.specs.Snapshot.{Snapshot};
+ghost use Rattle.vt_transcript.specs.Plain.{is_plain};
+ghost use Rattle.vt_transcript.specs.Replies.{Transcript};
 ghost use Rattle.move_core.specs.Sides.{is_running};
 ghost use Rattle.vt_seat.specs.Seats.{world_of};
 ghost use Rattle.vt_world.specs.Saving.{CanSave};
@@ -14,7 +14,6 @@ ghost use Rattle.script_run.specs.Saved.{suspended, plain_event_of};
 use crate::cursor::ScriptLines;
 use crate::output::{bad_line, not_yet, write_and_end};
 use crate::start::start;
-use crb_history::plain_runs_are_one;
 use std::alloc::Global;
 use vt_base::{Sink, Status};
 use vt_script::{Event, parse_line};
@@ -37,7 +36,7 @@ pub fn suspend<K: Sink>(alloc: Global, script: &[u8], sink: &mut K) -> Status
         };
         world.guest(&line);
     }
-    plain_runs_are_one();
+    vt_transcript::plain_runs_are_one();
     let status = save(alloc, &mut world, sink);
     drop(world);
     status
@@ -46,8 +45,8 @@ pub fn suspend<K: Sink>(alloc: Global, script: &[u8], sink: &mut K) -> Status
 // Writes the saved stream of a host.
 fn save<K: Sink>(alloc: Global, world: &mut World, sink: &mut K) -> Status
     requires runs { is_running world.old.a.host.stage ≡ true }
-    requires can_save { (b : Base) × (t : Transcript) × CanSave b t (world_of world.old.a) }
-    ensures writes { (b : Base) (t : Transcript) → CanSave b t (world_of world.old.a) → WritesSaved b t result (seen (K.written sink.old) (K.room sink.old) (K.faults sink.old))
+    requires can_save { (b : Snapshot) × (t : Transcript) × CanSave b t (world_of world.old.a) }
+    ensures writes { (b : Snapshot) (t : Transcript) → CanSave b t (world_of world.old.a) → WritesSaved b t result (seen (K.written sink.old) (K.room sink.old) (K.faults sink.old))
         (seen (K.written sink.new) (K.room sink.new) (K.faults sink.new)) }
 {
     let mut stream = Vec::new(alloc);

@@ -44,13 +44,13 @@ const LONG_INPUT: &[u8] = b"long input\n";
 /// none that are known, and then nothing is read; `Script` at the first line that isn't in the grammar; `Limit` for an
 /// input of more than 1,048,576 bytes; `Refused` where the input isn't, or doesn't begin with, a saved stream; `NotYet`
 /// where a host can't be saved since a command of it is claimed and unfinished; `ReadFault` and `WriteFault` where the
-/// source or the sink failed; `Memory` where memory was wanting.
+/// source or the sink failed; `Memory` where memory was lacking.
 pub fn run<S: Source, K: Sink>(alloc: Global, words: &[String], source: &mut S, sink: &mut K) -> Ran
     // Where the bytes of the source and the sink are known: what is written is what the action reads in the input.
     ensures does { (action : Action) → IsAction action words.now
         → IfSome (S.left source.old) (λ input. Writes result.status (reading_of action input) (K.written sink.old) (K.written sink.new)) }
 
-    // `bulk` reads nothing and writes its one line, or nothing for want of memory. A sink fails only where the line is
+    // `bulk` reads nothing and writes its one line, or nothing for lack of memory. A sink fails only where the line is
     // longer than its promised room.
     ensures sums_up { (seed count : ℕ) → IsBulk seed count words.now → Tells Status.Ok (bulk_summary seed count) result.status
         (seen (K.written sink.old) (K.room sink.old) (K.faults sink.old)) (seen (K.written sink.new) (K.room sink.new) (K.faults sink.new)) }
@@ -72,7 +72,7 @@ pub fn run<S: Source, K: Sink>(alloc: Global, words: &[String], source: &mut S, 
 
     // A source that promises not to fail gives no fault, and a sink fails only where some output is longer than its
     // promised room.
-    ensures reads_if_promised { IsTrue (S.steady source.old) → result.status ≢ Status.ReadFault }
+    ensures reads_if_promised { IsTrue (S.never_fails source.old) → result.status ≢ Status.ReadFault }
     ensures writes_if_promised { (action : Action) → IsAction action words.now
         → IfSome (S.left source.old) (λ input. result.status ≡ Status.WriteFault → IsCramped (reading_of action input) (K.room sink.old)) }
 
@@ -88,7 +88,7 @@ pub fn run<S: Source, K: Sink>(alloc: Global, words: &[String], source: &mut S, 
         → (result.status ≡ Status.Ok) ⊎ (result.status ≡ Status.Memory) }
 {
     match task_of(words) {
-        Some(Task::Read(action)) => perform(alloc, action, source, sink),
+        Some(Task::Read(action)) => run_action(alloc, action, source, sink),
         Some(Task::Bulk { seed, count }) => bulk(alloc, seed, count, sink),
         None => Ran {
             status: write_and_end(sink, &[], USAGE, Status::Usage),
@@ -98,12 +98,17 @@ pub fn run<S: Source, K: Sink>(alloc: Global, words: &[String], source: &mut S, 
 }
 
 // Reads the input, and does what the action makes of it.
-fn perform<S: Source, K: Sink>(alloc: Global, action: Action, source: &mut S, sink: &mut K) -> Ran
+fn run_action<S: Source, K: Sink>(
+    alloc: Global,
+    action: Action,
+    source: &mut S,
+    sink: &mut K,
+) -> Ran
     ensures writes { IfSome (S.left source.old) (λ input. Writes result.status (reading_of action input) (K.written sink.old) (K.written sink.new)) }
     ensures not_usage { result.status ≢ Status.Usage }
     ensures read_fault { result.status ≡ Status.ReadFault → Rose (S.faults source.old) (S.faults source.new) }
     ensures write_fault { result.status ≡ Status.WriteFault → Rose (K.faults sink.old) (K.faults sink.new) }
-    ensures reads_if_promised { IsTrue (S.steady source.old) → result.status ≢ Status.ReadFault }
+    ensures reads_if_promised { IsTrue (S.never_fails source.old) → result.status ≢ Status.ReadFault }
     ensures writes_if_promised { IfSome (S.left source.old) (λ input. result.status ≡ Status.WriteFault → IsCramped (reading_of action input) (K.room sink.old)) }
     ensures read_to_end { result.status ≡ Status.Ok → IsAtEnd (S.left source.new) }
     ensures at_most_limit { LosesAtMost (S.left source.old) (S.left source.new) (1048576 + 4096) }

@@ -1,39 +1,39 @@
--- Blobs, refusals and cuts are told apart, and so are a TPM and a fault.
+-- Blobs, refusals and cuts are distinguished, and so are a TPM and a fault.
 use Rattle.std.proofs.Common.{◌≡◌, ◌≢◌, ℕ, ◌<◌, List, [], ◌++◌, length, take, drop, get_or, Option, Some, None, Ok, Err, refl, sym, ap, subst, ◌∙◌, arith, inl, inr, append_assoc}
 use Rattle.std.specs.Prelude.{IsSome, IfSome}
 use Rattle.std.proofs.lemmas.Bool.{cases_order}
 use Rattle.std.proofs.lemmas.List.{length-take, take-append-drop, append-nil, get_or-take}
-use Rattle.vt_base.specs.Layout.{Spells, IsOpen}
-use Rattle.vt_base.proofs.Layouts.{one_spelling}
-use Rattle.vt_base.specs.declared.words.Kind.{Kind}
-use Rattle.vt_base.specs.declared.words.Kind.TheVariants.{Permanent, Volatile, Saved}
-use Rattle.vt_base.specs.declared.words.Why.{Why}
-use Rattle.vt_base.specs.declared.words.Why.TheVariants.{Value, Cut, Extra}
-use Rattle.vt_base.specs.declared.words.Malformed.{Malformed}
+use Rattle.vt_base.specs.Layout.{Encodes, IsOpen}
+use Rattle.vt_base.proofs.Layouts.{one_encoding}
+use Rattle.vt_base.specs.declared.types.Kind.{Kind}
+use Rattle.vt_base.specs.declared.types.Kind.TheVariants.{Permanent, Volatile, Saved}
+use Rattle.vt_base.specs.declared.types.Why.{Why}
+use Rattle.vt_base.specs.declared.types.Why.TheVariants.{Value, Cut, Extra}
+use Rattle.vt_base.specs.declared.types.Malformed.{Malformed}
 use Rattle.tpm_core.specs.declared.parts.SavedParts.{SavedParts}
 use Rattle.tpm_core.specs.declared.parts.TpmParts.{TpmParts}
 use Rattle.tpm_core.specs.Answers.{kept}
-use Rattle.tpm_core.specs.Steps.{IsFit}
-use Rattle.state_blobs.specs.declared.words.BlobFault.{BlobFault}
-use Rattle.state_blobs.specs.Texts.{saved_body, with_header, text_of, IsBlob}
+use Rattle.tpm_core.specs.Steps.{IsValid}
+use Rattle.state_blobs.specs.declared.types.BlobFault.{BlobFault}
+use Rattle.state_blobs.specs.Encodings.{saved_body, with_header, encode_blob, IsBlob}
 use Rattle.state_blobs.specs.Blobs.{Ending, blob}
 use Rattle.state_blobs.specs.Refusals.{FirstDiffersAt, IsRefused, IsCut}
 use Rattle.state_blobs.specs.Assembly.{TellsSaved, IsAssembled, IsNoneOrBlob, IsUnfinished, Disagrees, IsFaultFor, IsFault}
-use Rattle.state_blobs.proofs.Bodies.{blob_is_told}
-use Rattle.state_blobs.proofs.Refused.{same_fault, whole_or_refused, refused_is_told}
-use Rattle.state_blobs.proofs.Told.{open_is_cut}
+use Rattle.state_blobs.proofs.Bodies.{blob_is_decoded}
+use Rattle.state_blobs.proofs.Refused.{same_fault, whole_or_refused, refused_is_decoded}
+use Rattle.state_blobs.proofs.Decoding.{open_is_cut}
 use Rattle.state_blobs.proofs.Once.{running_once, saved_once}
 
-pub text_is_blob : (kind : Kind) (v : TpmParts) → IsFit v → IsBlob kind (text_of kind v)
+pub text_is_blob : (kind : Kind) (v : TpmParts) → IsValid v → IsBlob kind (encode_blob kind v)
 text_is_blob kind v fit = record { values = v; fit = fit; spelled = refl }
 
--- two fronts of the same bytes that are told end alike, and are one
-two_fronts : (kind : Kind) (bytes : List ℕ) (d e : Ending) (m n : ℕ) → Spells (blob kind) d (take m bytes) → Spells (blob kind) e (take n bytes) → (d ≡ e) × (take m bytes ≡ take n bytes)
-two_fronts kind bytes d e m n p q = one_spelling (blob kind) d e (take m bytes) (take n bytes) (drop m bytes) (drop n bytes) p q (take-append-drop m bytes ∙ sym (take-append-drop n bytes))
+-- two prefixes of the same bytes that are decoded end alike, and are one
+two_prefixes : (kind : Kind) (bytes : List ℕ) (d e : Ending) (m n : ℕ) → Encodes (blob kind) d (take m bytes) → Encodes (blob kind) e (take n bytes) → (d ≡ e) × (take m bytes ≡ take n bytes)
+two_prefixes kind bytes d e m n p q = one_encoding (blob kind) d e (take m bytes) (take n bytes) (drop m bytes) (drop n bytes) p q (take-append-drop m bytes ∙ sym (take-append-drop n bytes))
 
--- a front that is told and a blob that begins with it are one
-front_of_blob : (kind : Kind) (bytes front back : List ℕ) (d : Ending) → IsBlob kind bytes → Spells (blob kind) d front → front ++ back ≡ bytes → (d ≡ Ok tt) × (front ≡ bytes)
-front_of_blob kind bytes front back d is spelled same = one_spelling (blob kind) d (Ok tt) front bytes back [] spelled (blob_is_told kind bytes is) (same ∙ sym (append-nil bytes))
+-- a prefix that is decoded and a blob that begins with it are one
+prefix_of_blob : (kind : Kind) (bytes prefix back : List ℕ) (d : Ending) → IsBlob kind bytes → Encodes (blob kind) d prefix → prefix ++ back ≡ bytes → (d ≡ Ok tt) × (prefix ≡ bytes)
+prefix_of_blob kind bytes prefix back d is spelled same = one_encoding (blob kind) d (Ok tt) prefix bytes back [] spelled (blob_is_decoded kind bytes is) (same ∙ sym (append-nil bytes))
 
 same_malformed : (f g : Malformed) → f.why ≡ g.why → f.place ≡ g.place → f ≡ g
 same_malformed f g p q = ap (λ (x : Why). record f { why = x }) p ∙ ap (λ (x : ℕ). record g { place = x }) q
@@ -41,74 +41,74 @@ same_malformed f g p q = ap (λ (x : Why). record f { why = x }) p ∙ ap (λ (x
 -- A blob isn't refused.
 pub blob_not_refused : (kind : Kind) (fault : Malformed) (bytes : List ℕ) → IsBlob kind bytes → IsRefused kind fault bytes → ⊥
 blob_not_refused kind fault bytes is refused =
-    elim (refused_is_told kind fault.why fault.place bytes refused) [
-      | inl (n, told) ↦ whole_or_refused fault (sym (front_of_blob kind bytes (take n bytes) (drop n bytes) (Err fault) is told (take-append-drop n bytes)).0)
-      | inr (less, front, extra) ↦
-          let same = (front_of_blob kind bytes (take fault.place bytes) (drop fault.place bytes) (Ok tt) is (blob_is_told kind (take fault.place bytes) front) (take-append-drop fault.place bytes)).1 in
+    elim (refused_is_decoded kind fault.why fault.place bytes refused) [
+      | inl (n, exact) ↦ whole_or_refused fault (sym (prefix_of_blob kind bytes (take n bytes) (drop n bytes) (Err fault) is exact (take-append-drop n bytes)).0)
+      | inr (less, prefix, extra) ↦
+          let same = (prefix_of_blob kind bytes (take fault.place bytes) (drop fault.place bytes) (Ok tt) is (blob_is_decoded kind (take fault.place bytes) prefix) (take-append-drop fault.place bytes)).1 in
           absurd (omega (arith, ap length same, length-take fault.place bytes, less))
     ]
 
 -- Bytes are refused in one way.
 pub refused_once : (kind : Kind) (f g : Malformed) (bytes : List ℕ) → IsRefused kind f bytes → IsRefused kind g bytes → f ≡ g
 refused_once kind f g bytes p q =
-    elim (refused_is_told kind f.why f.place bytes p) [
-      | inl (m, told) ↦
-          elim (refused_is_told kind g.why g.place bytes q) [
-            | inl (n, told_too) ↦ same_fault f g (sym (two_fronts kind bytes (Err f) (Err g) m n told told_too).0)
-            | inr (less, front, extra) ↦ absurd (whole_or_refused f (sym (two_fronts kind bytes (Err f) (Ok tt) m g.place told (blob_is_told kind (take g.place bytes) front)).0))
+    elim (refused_is_decoded kind f.why f.place bytes p) [
+      | inl (m, exact) ↦
+          elim (refused_is_decoded kind g.why g.place bytes q) [
+            | inl (n, decoded_too) ↦ same_fault f g (sym (two_prefixes kind bytes (Err f) (Err g) m n exact decoded_too).0)
+            | inr (less, prefix, extra) ↦ absurd (whole_or_refused f (sym (two_prefixes kind bytes (Err f) (Ok tt) m g.place exact (blob_is_decoded kind (take g.place bytes) prefix)).0))
           ]
-      | inr (less, front, extra) ↦
-          elim (refused_is_told kind g.why g.place bytes q) [
-            | inl (n, told) ↦ absurd (whole_or_refused g (sym (two_fronts kind bytes (Err g) (Ok tt) n f.place told (blob_is_told kind (take f.place bytes) front)).0))
-            | inr (less_too, front_too, extra_too) ↦
-                let same = (two_fronts kind bytes (Ok tt) (Ok tt) f.place g.place (blob_is_told kind (take f.place bytes) front) (blob_is_told kind (take g.place bytes) front_too)).1 in
+      | inr (less, prefix, extra) ↦
+          elim (refused_is_decoded kind g.why g.place bytes q) [
+            | inl (n, exact) ↦ absurd (whole_or_refused g (sym (two_prefixes kind bytes (Err g) (Ok tt) n f.place exact (blob_is_decoded kind (take f.place bytes) prefix)).0))
+            | inr (less_too, prefix_too, extra_too) ↦
+                let same = (two_prefixes kind bytes (Ok tt) (Ok tt) f.place g.place (blob_is_decoded kind (take f.place bytes) prefix) (blob_is_decoded kind (take g.place bytes) prefix_too)).1 in
                 same_malformed f g (extra ∙ sym extra_too) (omega (arith, ap length same, length-take f.place bytes, length-take g.place bytes, less, less_too))
           ]
     ]
 
--- A front of a blob that isn't all of it is cut.
-pub front_is_cut : (kind : Kind) (bytes : List ℕ) (n : ℕ) → IsBlob kind bytes → n < length bytes → IsCut kind (take n bytes)
-front_is_cut kind bytes n is less = open_is_cut kind (take n bytes) none
+-- A prefix of a blob that isn't all of it is cut.
+pub prefix_is_cut : (kind : Kind) (bytes : List ℕ) (n : ℕ) → IsBlob kind bytes → n < length bytes → IsCut kind (take n bytes)
+prefix_is_cut kind bytes n is less = open_is_cut kind (take n bytes) none
   where
     none : IsOpen (blob kind) (take n bytes)
     none end m spelled =
         let whole : take m (take n bytes) ++ (drop m (take n bytes) ++ drop n bytes) ≡ bytes =
-        sym (append_assoc (take m (take n bytes)) (drop m (take n bytes)) (drop n bytes)) ∙ ap (λ (front : List ℕ). front ++ drop n bytes) (take-append-drop m (take n bytes)) ∙ take-append-drop n bytes in
-        let same = (front_of_blob kind bytes (take m (take n bytes)) (drop m (take n bytes) ++ drop n bytes) end is spelled whole).1 in
+        sym (append_assoc (take m (take n bytes)) (drop m (take n bytes)) (drop n bytes)) ∙ ap (λ (prefix : List ℕ). prefix ++ drop n bytes) (take-append-drop m (take n bytes)) ∙ take-append-drop n bytes in
+        let same = (prefix_of_blob kind bytes (take m (take n bytes)) (drop m (take n bytes) ++ drop n bytes) end is spelled whole).1 in
         omega (arith, ap length same, length-take m (take n bytes), length-take n bytes, less)
 
 -- What the table refuses for bytes that are there, the layout refuses.
-pub refused_is_told_if : (kind : Kind) (fault : Malformed) (bytes : List ℕ) → IsRefused kind fault bytes → fault.why ≢ Extra → (n : ℕ) × Spells (blob kind) (Err fault) (take n bytes)
-refused_is_told_if kind fault bytes refused other =
-    elim (refused_is_told kind fault.why fault.place bytes refused) [
-      | inl told ↦ told
-      | inr (less, front, extra) ↦ absurd (other extra)
+pub refused_is_decoded_if : (kind : Kind) (fault : Malformed) (bytes : List ℕ) → IsRefused kind fault bytes → fault.why ≢ Extra → (n : ℕ) × Encodes (blob kind) (Err fault) (take n bytes)
+refused_is_decoded_if kind fault bytes refused other =
+    elim (refused_is_decoded kind fault.why fault.place bytes refused) [
+      | inl exact ↦ exact
+      | inr (less, prefix, extra) ↦ absurd (other extra)
     ]
 
 -- ---- a TPM and a fault
 
 -- the blob that a saved state would have
-agreeing_same : (v w : TpmParts) → v.counter ≡ w.counter → v.pcr ≡ w.pcr → text_of Saved (record v { saved = Some (kept v) }) ≡ text_of Saved (record w { saved = Some (kept w) })
-unfolding text_of
+agreeing_same : (v w : TpmParts) → v.counter ≡ w.counter → v.pcr ≡ w.pcr → encode_blob Saved (record v { saved = Some (kept v) }) ≡ encode_blob Saved (record w { saved = Some (kept w) })
+unfolding encode_blob
 agreeing_same v w p q =
     ap (λ (c : ℕ). let state : SavedParts = record { counter = c; pcr = take 16 v.pcr } in with_header Saved (saved_body (Some state))) p
     ∙ ap (λ (registers : List (List ℕ)). let state : SavedParts = record { counter = w.counter; pcr = take 16 registers } in with_header Saved (saved_body (Some state))) q
 
-saved_text : (v : TpmParts) (saved : Option SavedParts) → v.saved ≡ saved → text_of Saved v ≡ with_header Saved (saved_body saved)
-unfolding text_of
+saved_text : (v : TpmParts) (saved : Option SavedParts) → v.saved ≡ saved → encode_blob Saved v ≡ with_header Saved (saved_body saved)
+unfolding encode_blob
 saved_text v saved is = ap (λ (s : Option SavedParts). with_header Saved (saved_body s)) is
 
-kept_text : (v : TpmParts) (saved : Option SavedParts) → v.saved ≡ saved → IsSome saved → IfSome saved (λ state. state ≡ kept v) → text_of Saved v ≡ text_of Saved (record v { saved = Some (kept v) })
-unfolding text_of
+kept_text : (v : TpmParts) (saved : Option SavedParts) → v.saved ≡ saved → IsSome saved → IfSome saved (λ state. state ≡ kept v) → encode_blob Saved v ≡ encode_blob Saved (record v { saved = Some (kept v) })
+unfolding encode_blob
 kept_text v None is there agrees = absurd cc
 kept_text v (Some state) is there agrees = saved_text v (Some state) is ∙ ap (λ (s : SavedParts). with_header Saved (saved_body (Some s))) agrees
 
 differs_not : (place : ℕ) (bytes wanted : List ℕ) → bytes ≡ wanted → FirstDiffersAt place bytes wanted → ⊥
 differs_not place bytes wanted same first = first.differs (ap (λ (b : List ℕ). get_or b place 0) same)
 
-told_there : (v : TpmParts) (bytes : List ℕ) → TellsSaved bytes v → IsSome v.saved → bytes ≡ text_of Saved v
-told_there v bytes (inl is) there = is
-told_there v bytes (inr (none, gone)) there = let never : IsSome {T = SavedParts} None = subst (λ (s : Option SavedParts). IsSome s) gone there in absurd cc
+decoded_there : (v : TpmParts) (bytes : List ℕ) → TellsSaved bytes v → IsSome v.saved → bytes ≡ encode_blob Saved v
+decoded_there v bytes (inl is) there = is
+decoded_there v bytes (inr (none, gone)) there = let never : IsSome {T = SavedParts} None = subst (λ (s : Option SavedParts). IsSome s) gone there in absurd cc
 
 no_disagreement : (place : ℕ) (permanent volatile saved : List ℕ) (t : TpmParts) → IsAssembled permanent volatile saved t → Disagrees place volatile saved → ⊥
 no_disagreement place permanent volatile saved t a d =
@@ -116,9 +116,9 @@ no_disagreement place permanent volatile saved t a d =
     let state = saved_once t d.saving saved a.fit d.is_fit_too a.is_saved (inl d.is_saved) in
     let there : IsSome t.saved = subst (λ (s : Option SavedParts). IsSome s) (sym state) d.is_there in
     let agrees = a.fit.kept_agrees (running.started ∙ d.is_started) in
-    let same : saved ≡ text_of Saved (record d.running { saved = Some (kept d.running) }) =
-    told_there t saved a.is_saved there ∙ kept_text t t.saved refl there agrees ∙ agreeing_same t d.running running.counter running.pcr in
-    differs_not place saved (text_of Saved (record d.running { saved = Some (kept d.running) })) same d.first
+    let same : saved ≡ encode_blob Saved (record d.running { saved = Some (kept d.running) }) =
+    decoded_there t saved a.is_saved there ∙ kept_text t t.saved refl there agrees ∙ agreeing_same t d.running running.counter running.pcr in
+    differs_not place saved (encode_blob Saved (record d.running { saved = Some (kept d.running) })) same d.first
 
 -- Three blobs that make a TPM have no fault.
 not_both_at : (kind : Kind) (why : Why) (place : ℕ) (permanent volatile saved : List ℕ) (t : TpmParts) → IsAssembled permanent volatile saved t → IsFaultFor kind why place permanent volatile saved → ⊥
@@ -142,7 +142,7 @@ not_both permanent volatile saved t f a fault = not_both_at f.kind f.fault.why f
 -- ---- one fault
 
 not_later : (p q : ℕ) (bytes wanted : List ℕ) → FirstDiffersAt p bytes wanted → FirstDiffersAt q bytes wanted → p < q → ⊥
-not_later p q bytes wanted a b lt = a.differs (sym (get_or-take q bytes p 0 lt) ∙ ap (λ (front : List ℕ). get_or front p 0) b.same ∙ get_or-take q wanted p 0 lt)
+not_later p q bytes wanted a b lt = a.differs (sym (get_or-take q bytes p 0 lt) ∙ ap (λ (prefix : List ℕ). get_or prefix p 0) b.same ∙ get_or-take q wanted p 0 lt)
 
 first_once : (p q : ℕ) (bytes wanted : List ℕ) → FirstDiffersAt p bytes wanted → FirstDiffersAt q bytes wanted → p ≡ q
 first_once p q bytes wanted a b =
@@ -155,10 +155,10 @@ first_once p q bytes wanted a b =
 one_place : (p q : ℕ) (volatile saved : List ℕ) → Disagrees p volatile saved → Disagrees q volatile saved → p ≡ q
 one_place p q volatile saved a b =
     let same = running_once a.running b.running volatile a.is_fit b.is_fit (inl a.is_volatile) (inl b.is_volatile) in
-    first_once p q saved (text_of Saved (record b.running { saved = Some (kept b.running) }))
+    first_once p q saved (encode_blob Saved (record b.running { saved = Some (kept b.running) }))
     (subst (FirstDiffersAt p saved) (agreeing_same a.running b.running same.counter same.pcr) a.first) b.first
 
--- the same fault, told by its parts
+-- the same fault, by its parts
 abbrev IsSame : Kind → Why → ℕ → Kind → Why → ℕ → Type 0
 IsSame kind why place kind_too why_too place_too = (kind ≡ kind_too) × (why ≡ why_too) × (place ≡ place_too)
 

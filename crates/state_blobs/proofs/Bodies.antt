@@ -1,4 +1,4 @@
--- Bodies of blobs, and the values that they spell.
+-- Bodies of blobs, and the values that they encode.
 use Rattle.std.proofs.Common.{◌≡◌, ℕ, ◌+◌, ◌-◌, ◌*◌, ◌<◌, ◌≤◌, ◌^◌, suc, Bool, true, false, cond, eqb, ◌||◌, List, [], ◌∷◌, ◌++◌, length, take, drop, get_or, replicate, Option, Some, None, Ok, refl, sym, ap, subst, ◌∙◌, arith, inl, inr, ◌⊎◌}
 use Rattle.std.specs.Prelude.{IfSome, is_some}
 use Rattle.std.specs.Int.{w32, w64, from_be_bytes}
@@ -8,24 +8,24 @@ use Rattle.std.proofs.lemmas.Bool.Decides.{nat_tests}
 use Rattle.std.proofs.lemmas.List.{length-append, length-take, length-drop, get_or_append_left, get_or-append_right, get_or-replicate, take-append-drop, drop_all}
 use Rattle.std.proofs.lemmas.Nat.{be_bytes_8}
 use Rattle.vt_base.specs.Numbers.{IsBytes, number, long}
-use Rattle.vt_base.specs.Layout.{Ends, Field, Spells, number_then}
+use Rattle.vt_base.specs.Layout.{Ends, Field, Encodes, number_then}
 use Rattle.vt_base.specs.Refusing.{malformed, refuse}
-use Rattle.vt_base.proofs.Numbers.{IsBytes-take, IsBytes-drop, number-from, number_below, spells_number}
-use Rattle.vt_base.proofs.Fronts.{number_front, passed}
-use Rattle.vt_base.specs.declared.words.Kind.{Kind}
-use Rattle.vt_base.specs.declared.words.Kind.TheVariants.{Permanent, Volatile, Saved}
-use Rattle.vt_base.specs.declared.words.Why.TheVariants.{Version, Length, Value}
+use Rattle.vt_base.proofs.Numbers.{IsBytes-take, IsBytes-drop, number-from, number_below, encodes_number}
+use Rattle.vt_base.proofs.Prefixes.{number_prefix, passed}
+use Rattle.vt_base.specs.declared.types.Kind.{Kind}
+use Rattle.vt_base.specs.declared.types.Kind.TheVariants.{Permanent, Volatile, Saved}
+use Rattle.vt_base.specs.declared.types.Why.TheVariants.{Version, Length, Value}
 use Rattle.tpm_core.specs.declared.algorithm.Algorithm.{Algorithm}
 use Rattle.tpm_core.specs.declared.algorithm.Algorithm.TheVariants.{Sha256}
 use Rattle.tpm_core.specs.declared.parts.SavedParts.{SavedParts}
 use Rattle.tpm_core.specs.declared.parts.TpmParts.{TpmParts}
 use Rattle.tpm_core.specs.Banks.{blank_bank}
-use Rattle.tpm_core.specs.Steps.{IsFit, IsKept}
+use Rattle.tpm_core.specs.Steps.{IsValid, IsKept}
 use Rattle.state_blobs.specs.Numbers.{version}
-use Rattle.state_blobs.specs.Texts.{magic_of, with_header, counted, volatile_body, saved_body, body_of, text_of, IsBlob, is_length, flag_fits}
+use Rattle.state_blobs.specs.Encodings.{magic_of, with_header, counted, volatile_body, saved_body, body_of, encode_blob, IsBlob, is_length, flag_fits}
 use Rattle.state_blobs.specs.Blobs.{body_then, after_magic, blob}
-use Rattle.vt_base.proofs.Marks.{mark_spells, marks_spell}
-use Rattle.state_blobs.proofs.Marks.{mark_cases, marks_cases}
+use Rattle.vt_base.proofs.Magics.{magic_byte_encodes, magic_encode}
+use Rattle.state_blobs.proofs.Magics.{magic_byte_cases, magic_cases}
 use Rattle.state_blobs.specs.Running.{AreRegisters}
 use Rattle.state_blobs.proofs.Registers.{length-concat, registers_in, length-registers_in, AreRegisters-registers_in, concat-registers_in}
 
@@ -41,24 +41,24 @@ length_small Saved count is = grind (arith, nat_tests)
 
 -- ---- a body behind its header is a blob, and a blob is nothing else
 
-body_spells : (kind : Kind) (body : List ℕ) → IsBody kind body → Spells (cond (is_length kind (length body)) (body_then kind (length body)) (refuse Length 5)) (Ok tt) body
-body_spells kind [] is = absurd (omega (arith, (length_small kind 0 is.sized).0))
-body_spells kind (flag ∷ rest) is =
+body_encodes : (kind : Kind) (body : List ℕ) → IsBody kind body → Encodes (cond (is_length kind (length body)) (body_then kind (length body)) (refuse Length 5)) (Ok tt) body
+body_encodes kind [] is = absurd (omega (arith, (length_small kind 0 is.sized).0))
+body_encodes kind (flag ∷ rest) is =
     let first : 1 ≤ length (flag ∷ rest) = omega arith in
     let enough : suc (length rest) - 1 ≤ length rest = omega arith in
-    let all : Spells (Field (suc (length rest) - 1) (λ _. Ends (Ok tt))) (Ok tt) rest = (enough, (refl, drop_all (suc (length rest) - 1) rest (omega arith))) in
-    let flagged : Spells (body_then kind (suc (length rest))) (Ok tt) (flag ∷ rest) =
-    (first, subst (λ (b : Bool). Spells (cond b (Field (suc (length rest) - 1) (λ _. Ends (Ok tt))) (refuse Value 9)) (Ok tt) rest) (sym is.flagged) all) in
-    subst (λ (b : Bool). Spells (cond b (body_then kind (suc (length rest))) (refuse Length 5)) (Ok tt) (flag ∷ rest)) (sym is.sized) flagged
+    let all : Encodes (Field (suc (length rest) - 1) (λ _. Ends (Ok tt))) (Ok tt) rest = (enough, (refl, drop_all (suc (length rest) - 1) rest (omega arith))) in
+    let flagged : Encodes (body_then kind (suc (length rest))) (Ok tt) (flag ∷ rest) =
+    (first, subst (λ (b : Bool). Encodes (cond b (Field (suc (length rest) - 1) (λ _. Ends (Ok tt))) (refuse Value 9)) (Ok tt) rest) (sym is.flagged) all) in
+    subst (λ (b : Bool). Encodes (cond b (body_then kind (suc (length rest))) (refuse Length 5)) (Ok tt) (flag ∷ rest)) (sym is.sized) flagged
 
-pub body_is_told : (kind : Kind) (body : List ℕ) → IsBody kind body → Spells (blob kind) (Ok tt) (with_header kind body)
+pub body_is_decoded : (kind : Kind) (body : List ℕ) → IsBody kind body → Encodes (blob kind) (Ok tt) (with_header kind body)
 unfolding blob
-body_is_told kind body is =
-    marks_spell (magic_of kind) 0 (after_magic kind) (Ok tt) (version ∷ number (length body) ++ body)
-    (mark_spells version Version 4 (number_then (λ count. cond (is_length kind count) (body_then kind count) (refuse Length 5))) (Ok tt) (number (length body) ++ body)
-    (spells_number (λ count. cond (is_length kind count) (body_then kind count) (refuse Length 5)) (Ok tt) (length body) body (omega (arith, (length_small kind (length body) is.sized).1)) (body_spells kind body is)))
+body_is_decoded kind body is =
+    magic_encode (magic_of kind) 0 (after_magic kind) (Ok tt) (version ∷ number (length body) ++ body)
+    (magic_byte_encodes version Version 4 (number_then (λ count. cond (is_length kind count) (body_then kind count) (refuse Length 5))) (Ok tt) (number (length body) ++ body)
+    (encodes_number (λ count. cond (is_length kind count) (body_then kind count) (refuse Length 5)) (Ok tt) (length body) body (omega (arith, (length_small kind (length body) is.sized).1)) (body_encodes kind body is)))
 
-bodied : (kind : Kind) (count : ℕ) (body : List ℕ) → is_length kind count ≡ true → Spells (body_then kind count) (Ok tt) body → IsBody kind body × (length body ≡ count)
+bodied : (kind : Kind) (count : ℕ) (body : List ℕ) → is_length kind count ≡ true → Encodes (body_then kind count) (Ok tt) body → IsBody kind body × (length body ≡ count)
 bodied kind count [] is spelled = absurd (omega (arith, spelled.0))
 bodied kind count (flag ∷ rest) is spelled =
     let p = passed (flag_fits kind count flag) (Field (count - 1) (λ _. Ends (Ok tt))) (malformed Value 9) tt rest spelled.1 in
@@ -72,17 +72,17 @@ pub record Bodied (kind : Kind) (bytes : List ℕ) : Type 0 where
   pub fits : IsBytes body
   pub parts : bytes ≡ with_header kind body
 
-pub told_is_body : (kind : Kind) (bytes : List ℕ) → IsBytes bytes → Spells (blob kind) (Ok tt) bytes → Bodied kind bytes
+pub decoded_is_body : (kind : Kind) (bytes : List ℕ) → IsBytes bytes → Encodes (blob kind) (Ok tt) bytes → Bodied kind bytes
 unfolding blob
-told_is_body kind bytes fits spelled =
-    elim (marks_cases (magic_of kind) 0 (after_magic kind) (Ok tt) bytes spelled) [
+decoded_is_body kind bytes fits spelled =
+    elim (magic_cases (magic_of kind) 0 (after_magic kind) (Ok tt) bytes spelled) [
       | inr (i, first, ends) ↦ absurd (cc (ends))
       | inl (rest, is, then) ↦
-          elim (mark_cases version Version 4 (number_then (λ count. cond (is_length kind count) (body_then kind count) (refuse Length 5))) (Ok tt) rest then) [
+          elim (magic_byte_cases version Version 4 (number_then (λ count. cond (is_length kind count) (body_then kind count) (refuse Length 5))) (Ok tt) rest then) [
             | inr (other, differs, was, ends) ↦ absurd (cc (ends))
             | inl (more, are, counted) ↦
                 let parts : bytes ≡ magic_of kind ++ version ∷ more = is ∙ ap (λ (r : List ℕ). magic_of kind ++ r) are in
-                let f = number_front (λ count. cond (is_length kind count) (body_then kind count) (refuse Length 5)) (Ok tt) more (subst IsBytes (ap (drop 5) parts) (IsBytes-drop 5 bytes fits)) counted in
+                let f = number_prefix (λ count. cond (is_length kind count) (body_then kind count) (refuse Length 5)) (Ok tt) more (subst IsBytes (ap (drop 5) parts) (IsBytes-drop 5 bytes fits)) counted in
                 let p = passed (is_length kind f.value) (body_then kind f.value) (malformed Length 5) tt f.rest f.spelled in
                 let b = bodied kind f.value f.rest p.0 p.1 in
                 let number_is : number f.value ≡ number (length f.rest) = ap number (sym b.1) in
@@ -95,9 +95,9 @@ told_is_body kind bytes fits spelled =
           ]
     ]
 
--- ---- the values of a TPM spell bodies
+-- ---- the values of a TPM encode bodies
 
-pub pcr_are_registers : (v : TpmParts) → IsFit v → AreRegisters v.pcr
+pub pcr_are_registers : (v : TpmParts) → IsValid v → AreRegisters v.pcr
 pcr_are_registers v fit i lt = fit.width Sha256 i (omega (arith, lt, fit.registers Sha256))
 
 pub kept_are_registers : (state : SavedParts) → IsKept state → AreRegisters state.pcr
@@ -106,21 +106,21 @@ kept_are_registers state kept i lt = kept.width Sha256 i (omega (arith, lt, kept
 pub length-counted : (counter : ℕ) (registers : List (List ℕ)) → AreRegisters registers → length (counted counter registers) ≡ 4 + 32 * length registers
 length-counted counter registers are = omega (arith, length-append (number counter) (concat registers), length-concat registers are)
 
-length-running : (v : TpmParts) → IsFit v → length ((1 ∷ long v.draws) ++ counted v.counter v.pcr) ≡ 781
+length-running : (v : TpmParts) → IsValid v → length ((1 ∷ long v.draws) ++ counted v.counter v.pcr) ≡ 781
 length-running v fit = omega (arith, length-append (1 ∷ long v.draws) (counted v.counter v.pcr), length-counted v.counter v.pcr (pcr_are_registers v fit), fit.registers Sha256)
 
 pub length-kept : (state : SavedParts) → IsKept state → length (saved_body (Some state)) ≡ 517
 length-kept state kept = omega (arith, length-counted state.counter state.pcr (kept_are_registers state kept), kept.registers Sha256)
 
 -- the longer of the two bodies that a kind has
-pub length-started : (kind : Kind) (v : TpmParts) → IsFit v → kind ≡ Volatile → v.started ≡ true → length (body_of kind v) ≡ 781
+pub length-started : (kind : Kind) (v : TpmParts) → IsValid v → kind ≡ Volatile → v.started ≡ true → length (body_of kind v) ≡ 781
 length-started kind v fit volatile on = rw (volatile, on) (length-running v fit)
 
 length-saved : (saved : Option SavedParts) → IfSome saved IsKept → is_some saved ≡ true → length (saved_body saved) ≡ 517
 length-saved None kept there = absurd cc
 length-saved (Some state) kept there = length-kept state kept
 
-pub length-kept_too : (kind : Kind) (v : TpmParts) → IsFit v → kind ≡ Saved → is_some v.saved ≡ true → length (body_of kind v) ≡ 517
+pub length-kept_too : (kind : Kind) (v : TpmParts) → IsValid v → kind ≡ Saved → is_some v.saved ≡ true → length (body_of kind v) ≡ 517
 length-kept_too kind v fit saved there = rw saved (length-saved v.saved fit.kept_fits there)
 
 sized_body : (kind : Kind) (body : List ℕ) (size : ℕ) → length body ≡ size → is_length kind size ≡ true → flag_fits kind size (get_or body 0 0) ≡ true → IsBody kind body
@@ -130,24 +130,24 @@ saved_is_body : (saved : Option SavedParts) → IfSome saved IsKept → IsBody S
 saved_is_body None kept = record { sized = refl; flagged = refl }
 saved_is_body (Some state) kept = sized_body Saved (saved_body (Some state)) 517 (length-kept state kept) refl refl
 
-volatile_is_body : (v : TpmParts) → IsFit v → (on : Bool) → IsBody Volatile (cond on ((1 ∷ long v.draws) ++ counted v.counter v.pcr) (0 ∷ []))
+volatile_is_body : (v : TpmParts) → IsValid v → (on : Bool) → IsBody Volatile (cond on ((1 ∷ long v.draws) ++ counted v.counter v.pcr) (0 ∷ []))
 volatile_is_body v fit true = sized_body Volatile ((1 ∷ long v.draws) ++ counted v.counter v.pcr) 781 (length-running v fit) refl refl
 volatile_is_body v fit false = record { sized = refl; flagged = refl }
 
-pub fit_is_body : (kind : Kind) (v : TpmParts) → IsFit v → IsBody kind (body_of kind v)
+pub fit_is_body : (kind : Kind) (v : TpmParts) → IsValid v → IsBody kind (body_of kind v)
 fit_is_body Permanent v fit = sized_body Permanent (v.seed ++ long v.boots) 40 (omega (arith, length-append v.seed (long v.boots), fit.seed)) refl refl
 fit_is_body Volatile v fit = volatile_is_body v fit v.started
 fit_is_body Saved v fit = saved_is_body v.saved fit.kept_fits
 
 -- the blob of fit values is one
-pub text_is_told : (kind : Kind) (v : TpmParts) → IsFit v → Spells (blob kind) (Ok tt) (text_of kind v)
-unfolding text_of
-text_is_told kind v fit = body_is_told kind (body_of kind v) (fit_is_body kind v fit)
+pub text_is_decoded : (kind : Kind) (v : TpmParts) → IsValid v → Encodes (blob kind) (Ok tt) (encode_blob kind v)
+unfolding encode_blob
+text_is_decoded kind v fit = body_is_decoded kind (body_of kind v) (fit_is_body kind v fit)
 
-pub blob_is_told : (kind : Kind) (bytes : List ℕ) → IsBlob kind bytes → Spells (blob kind) (Ok tt) bytes
-blob_is_told kind bytes is = subst (Spells (blob kind) (Ok tt)) (sym is.spelled) (text_is_told kind is.values is.fit)
+pub blob_is_decoded : (kind : Kind) (bytes : List ℕ) → IsBlob kind bytes → Encodes (blob kind) (Ok tt) bytes
+blob_is_decoded kind bytes is = subst (Encodes (blob kind) (Ok tt)) (sym is.spelled) (text_is_decoded kind is.values is.fit)
 
--- ---- bodies spell the values of a TPM
+-- ---- bodies encode the values of a TPM
 
 -- a TPM that isn't started
 abbrev pub stopped_with : List ℕ → ℕ → Option SavedParts → TpmParts
@@ -160,7 +160,7 @@ blank_registers = (refl, λ i lt. ap length (get_or-replicate 24 i (replicate 32
 of_each : (P : Algorithm → Type 0) → P Sha256 → (a : Algorithm) → P a
 of_each P p Sha256 = p
 
-pub fit_stopped : (seed : List ℕ) (boots : ℕ) (saved : Option SavedParts) → length seed ≡ 32 → boots < 2 ^ 64 → IfSome saved IsKept → IsFit (stopped_with seed boots saved)
+pub fit_stopped : (seed : List ℕ) (boots : ℕ) (saved : Option SavedParts) → length seed ≡ 32 → boots < 2 ^ 64 → IfSome saved IsKept → IsValid (stopped_with seed boots saved)
 fit_stopped seed boots saved size below kept = record {
   seed = size;
   boots = below;
@@ -173,7 +173,7 @@ fit_stopped seed boots saved size below kept = record {
   kept_agrees = λ on. absurd cc;
 }
 
--- the seed of values of which only others are told
+-- the seed of values of which only others are decoded
 abbrev zero_seed : List ℕ
 zero_seed = replicate 32 0
 
@@ -186,22 +186,22 @@ long_below bytes fits = omega (arith, fits 0, fits 1, fits 2, fits 3, fits 4, fi
 
 counted_in : (n : ℕ) (bytes : List ℕ) → IsBytes bytes → length bytes ≡ 4 + 32 * n → counted (from_be_bytes w32 (take 4 bytes)) (registers_in n (drop 4 bytes)) ≡ bytes
 counted_in n bytes fits size =
-    ap (λ (front : List ℕ). front ++ concat (registers_in n (drop 4 bytes))) (number-from bytes fits (omega (arith, size)))
+    ap (λ (prefix : List ℕ). prefix ++ concat (registers_in n (drop 4 bytes))) (number-from bytes fits (omega (arith, size)))
     ∙ ap (λ (rest : List ℕ). take 4 bytes ++ rest) (concat-registers_in n (drop 4 bytes) (omega (arith, size, length-drop 4 bytes)))
     ∙ take-append-drop 4 bytes
 
 -- values whose body this is
 pub record Spelled (kind : Kind) (body : List ℕ) : Type 0 where
   pub values : TpmParts
-  pub fit : IsFit values
+  pub fit : IsValid values
   pub is : body ≡ body_of kind values
 
 nothing_flagged : (flag : ℕ) (rest : List ℕ) → length (flag ∷ rest) ≡ 1 → flag ≡ 0 → flag ∷ rest ≡ 0 ∷ []
 nothing_flagged flag [] size is = ap (λ (b : ℕ). b ∷ []) is
 nothing_flagged flag (b ∷ rest) size is = absurd (omega (arith, size))
 
-permanent_spelled : (body : List ℕ) → IsBytes body → length body ≡ 40 → Spelled Permanent body
-permanent_spelled body fits size = record {
+permanent_encoded : (body : List ℕ) → IsBytes body → length body ≡ 40 → Spelled Permanent body
+permanent_encoded body fits size = record {
   values = stopped_with (take 32 body) (from_be_bytes w64 (drop 32 body)) None;
   fit = fit_stopped (take 32 body) (from_be_bytes w64 (drop 32 body)) None (omega (arith, size, length-take 32 body)) (long_below (drop 32 body) (IsBytes-drop 32 body fits)) tt;
   is = sym (ap (λ (rest : List ℕ). take 32 body ++ rest) (long_from (drop 32 body) (IsBytes-drop 32 body fits) (omega (arith, size, length-drop 32 body))) ∙ take-append-drop 32 body);
@@ -219,7 +219,7 @@ running_with rest = record {
   saved = None;
 }
 
-fit_running : (rest : List ℕ) → IsBytes rest → length rest ≡ 780 → IsFit (running_with rest)
+fit_running : (rest : List ℕ) → IsBytes rest → length rest ≡ 780 → IsValid (running_with rest)
 unfolding running_with
 fit_running rest fits size =
     let long_enough : length (drop 4 (drop 8 rest)) ≡ 32 * 24 = omega (arith, size, length-drop 4 (drop 8 rest), length-drop 8 rest) in
@@ -236,17 +236,17 @@ fit_running rest fits size =
       kept_agrees = λ on. tt;
     }
 
-running_spelled : (rest : List ℕ) → IsBytes rest → length rest ≡ 780 → 1 ∷ rest ≡ volatile_body (running_with rest)
+running_encoded : (rest : List ℕ) → IsBytes rest → length rest ≡ 780 → 1 ∷ rest ≡ volatile_body (running_with rest)
 unfolding running_with
-running_spelled rest fits size =
+running_encoded rest fits size =
     let behind = counted_in 24 (drop 8 rest) (IsBytes-drop 8 rest fits) (omega (arith, size, length-drop 8 rest)) in
     let draws = long_from (take 8 rest) (IsBytes-take 8 rest fits) (omega (arith, size, length-take 8 rest)) in
-    sym (ap (λ (front : List ℕ). (1 ∷ front) ++ counted (from_be_bytes w32 (take 4 (drop 8 rest))) (registers_in 24 (drop 4 (drop 8 rest)))) draws
+    sym (ap (λ (prefix : List ℕ). (1 ∷ prefix) ++ counted (from_be_bytes w32 (take 4 (drop 8 rest))) (registers_in 24 (drop 4 (drop 8 rest)))) draws
     ∙ ap (λ (back : List ℕ). (1 ∷ take 8 rest) ++ back) behind
     ∙ ap (λ (all : List ℕ). 1 ∷ all) (take-append-drop 8 rest))
 
-kept_spelled : (rest : List ℕ) → IsBytes rest → length rest ≡ 516 → Spelled Saved (1 ∷ rest)
-kept_spelled rest fits size =
+kept_encoded : (rest : List ℕ) → IsBytes rest → length rest ≡ 516 → Spelled Saved (1 ∷ rest)
+kept_encoded rest fits size =
     let long_enough : length (drop 4 rest) ≡ 32 * 16 = omega (arith, size, length-drop 4 rest) in
     let state : SavedParts = record { counter = from_be_bytes w32 (take 4 rest); pcr = registers_in 16 (drop 4 rest) } in
     let are = AreRegisters-registers_in 16 (drop 4 rest) long_enough in
@@ -269,10 +269,10 @@ flag_cases n k flag sized le flagged =
       | inr ne ↦ inr (grind (arith, nat_tests), eqb-true flag _ flagged ∙ ap (λ (b : Bool). cond b 0 1) (ne_eqb n 1 ne))
     ]
 
-pub body_spelled : (kind : Kind) (body : List ℕ) → IsBytes body → IsBody kind body → Spelled kind body
-body_spelled kind [] fits is = absurd (omega (arith, (length_small kind 0 is.sized).0))
-body_spelled Permanent (flag ∷ rest) fits is = permanent_spelled (flag ∷ rest) fits (eqb-true _ 40 is.sized)
-body_spelled Volatile (flag ∷ rest) fits is =
+pub body_encoded : (kind : Kind) (body : List ℕ) → IsBytes body → IsBody kind body → Spelled kind body
+body_encoded kind [] fits is = absurd (omega (arith, (length_small kind 0 is.sized).0))
+body_encoded Permanent (flag ∷ rest) fits is = permanent_encoded (flag ∷ rest) fits (eqb-true _ 40 is.sized)
+body_encoded Volatile (flag ∷ rest) fits is =
     elim (flag_cases (length (flag ∷ rest)) 781 flag is.sized (omega arith) is.flagged) [
       | inl (size, off) ↦ record {
         values = stopped_with zero_seed 0 None;
@@ -284,10 +284,10 @@ body_spelled Volatile (flag ∷ rest) fits is =
           record {
             values = running_with rest;
             fit = fit_running rest fits_rest (omega (arith, size));
-            is = ap (λ (b : ℕ). b ∷ rest) on ∙ running_spelled rest fits_rest (omega (arith, size));
+            is = ap (λ (b : ℕ). b ∷ rest) on ∙ running_encoded rest fits_rest (omega (arith, size));
           }
     ]
-body_spelled Saved (flag ∷ rest) fits is =
+body_encoded Saved (flag ∷ rest) fits is =
     elim (flag_cases (length (flag ∷ rest)) 517 flag is.sized (omega arith) is.flagged) [
       | inl (size, off) ↦ record {
         values = stopped_with zero_seed 0 None;
@@ -296,19 +296,19 @@ body_spelled Saved (flag ∷ rest) fits is =
       }
       | inr (size, on) ↦
           let fits_rest : IsBytes rest = IsBytes-drop 1 (flag ∷ rest) fits in
-          let s = kept_spelled rest fits_rest (omega (arith, size)) in
+          let s = kept_encoded rest fits_rest (omega (arith, size)) in
           record { values = s.values; fit = s.fit; is = ap (λ (b : ℕ). b ∷ rest) on ∙ s.is }
     ]
 
--- what is told as a whole blob is one
-pub told_is_blob : (kind : Kind) (bytes : List ℕ) → IsBytes bytes → Spells (blob kind) (Ok tt) bytes → IsBlob kind bytes
-unfolding text_of
-told_is_blob kind bytes fits spelled =
-    let b = told_is_body kind bytes fits spelled in
-    let s = body_spelled kind b.body b.fits b.is_body in
+-- what is decoded as a whole blob is one
+pub decoded_is_blob : (kind : Kind) (bytes : List ℕ) → IsBytes bytes → Encodes (blob kind) (Ok tt) bytes → IsBlob kind bytes
+unfolding encode_blob
+decoded_is_blob kind bytes fits spelled =
+    let b = decoded_is_body kind bytes fits spelled in
+    let s = body_encoded kind b.body b.fits b.is_body in
     record { values = s.values; fit = s.fit; spelled = b.parts ∙ ap (with_header kind) s.is }
 
 -- a byte of the count of draws
 pub draws_byte : (v : TpmParts) (i : ℕ) → v.started ≡ true → 0 < i → i < 9 → get_or (volatile_body v) i 0 ≡ get_or (long v.draws) (i - 1) 0
-draws_byte v i on some few =
+draws_byte v i on some within_limit =
     rw on (get_or_append_left (1 ∷ long v.draws) (counted v.counter v.pcr) 0 i (omega arith) ∙ get_or-append_right (1 ∷ []) (long v.draws) 1 i 0 refl (omega arith))

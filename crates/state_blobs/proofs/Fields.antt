@@ -6,14 +6,14 @@ use Rattle.std.specs.List.{concat}
 use Rattle.std.proofs.lemmas.List.{length-append, take_at, drop_at, take_all, drop-drop}
 use Rattle.std.proofs.lemmas.Nat.{from_be_bytes-to_be_bytes_4, from_be_bytes-to_be_bytes_8}
 use Rattle.vt_base.specs.Numbers.{long}
-use Rattle.vt_base.specs.declared.words.Kind.{Kind}
-use Rattle.vt_base.specs.declared.words.Kind.TheVariants.{Permanent, Volatile, Saved}
+use Rattle.vt_base.specs.declared.types.Kind.{Kind}
+use Rattle.vt_base.specs.declared.types.Kind.TheVariants.{Permanent, Volatile, Saved}
 use Rattle.tpm_core.specs.declared.algorithm.Algorithm.TheVariants.{Sha256}
 use Rattle.tpm_core.specs.declared.parts.SavedParts.{SavedParts}
 use Rattle.tpm_core.specs.declared.parts.TpmParts.{TpmParts}
-use Rattle.tpm_core.specs.Steps.{IsFit, IsKept}
+use Rattle.tpm_core.specs.Steps.{IsValid, IsKept}
 use Rattle.state_blobs.specs.declared.read.Running.{Running}
-use Rattle.state_blobs.specs.Texts.{counted, saved_body, body_of, text_of, slice, IsBlob}
+use Rattle.state_blobs.specs.Encodings.{counted, saved_body, body_of, encode_blob, slice, IsBlob}
 use Rattle.state_blobs.specs.Assembly.{TellsVolatile, TellsSaved, IsNoneOrBlob}
 use Rattle.state_blobs.specs.Reading.{running_in}
 use Rattle.state_blobs.specs.Running.{AreRegisters}
@@ -22,25 +22,25 @@ use Rattle.state_blobs.proofs.Bodies.{pcr_are_registers, kept_are_registers, len
 
 -- ---- how long they are
 
-length-text : (kind : Kind) (v : TpmParts) → length (text_of kind v) ≡ 9 + length (body_of kind v)
-unfolding text_of
+length-text : (kind : Kind) (v : TpmParts) → length (encode_blob kind v) ≡ 9 + length (body_of kind v)
+unfolding encode_blob
 length-text kind v = omega arith
 
 pub permanent_size : (bytes : List ℕ) → IsBlob Permanent bytes → length bytes ≡ 49
 permanent_size bytes is = omega (arith, ap length is.spelled, length-text Permanent is.values, length-append is.values.seed (long is.values.boots), is.fit.seed)
 
-pub seed_read : (v : TpmParts) (bytes : List ℕ) → IsFit v → bytes ≡ text_of Permanent v → slice bytes 9 32 ≡ v.seed
-unfolding text_of
+pub seed_read : (v : TpmParts) (bytes : List ℕ) → IsValid v → bytes ≡ encode_blob Permanent v → slice bytes 9 32 ≡ v.seed
+unfolding encode_blob
 seed_read v bytes fit is = rw is (take_at v.seed (long v.boots) 32 fit.seed)
 
-pub boots_read : (v : TpmParts) (bytes : List ℕ) → IsFit v → bytes ≡ text_of Permanent v → from_be_bytes w64 (slice bytes 41 8) ≡ v.boots
-unfolding text_of
+pub boots_read : (v : TpmParts) (bytes : List ℕ) → IsValid v → bytes ≡ encode_blob Permanent v → from_be_bytes w64 (slice bytes 41 8) ≡ v.boots
+unfolding encode_blob
 boots_read v bytes fit is = rw is (ap (λ (rest : List ℕ). from_be_bytes w64 (take 8 rest)) (drop_at v.seed (long v.boots) 32 fit.seed) ∙ from_be_bytes-to_be_bytes_8 v.boots fit.boots)
 
 -- ---- behind the flag
 
-volatile_flag : (v : TpmParts) → get_or (text_of Volatile v) 9 0 ≡ cond v.started 1 0
-unfolding text_of
+volatile_flag : (v : TpmParts) → get_or (encode_blob Volatile v) 9 0 ≡ cond v.started 1 0
+unfolding encode_blob
 volatile_flag v = flag_of v.started
   where
     flag_of : (on : Bool) → get_or (cond on ((1 ∷ long v.draws) ++ counted v.counter v.pcr) (0 ∷ [])) 0 0 ≡ cond on 1 0
@@ -55,8 +55,8 @@ started_read v bytes (inl is) = ap (λ (b : List ℕ). eqb (get_or b 9 0) 1) is 
     flagged false = refl
 started_read v bytes (inr (none, off)) = ap (λ (b : List ℕ). eqb (get_or b 9 0) 1) none ∙ sym off
 
-saved_flag : (v : TpmParts) → eqb (get_or (text_of Saved v) 9 0) 1 ≡ is_some v.saved
-unfolding text_of
+saved_flag : (v : TpmParts) → eqb (get_or (encode_blob Saved v) 9 0) 1 ≡ is_some v.saved
+unfolding encode_blob
 saved_flag v = flag_of v.saved
   where
     flag_of : (saved : Option SavedParts) → eqb (get_or (saved_body saved) 0 0) 1 ≡ is_some saved
@@ -93,73 +93,73 @@ counter_read counter registers bytes at below is = ap (λ (rest : List ℕ). fro
 
 registers_read : (counter : ℕ) (registers read : List (List ℕ)) (bytes : List ℕ) (at count : ℕ) → drop at bytes ≡ counted counter registers → AreRegisters registers → length registers ≡ count
     → AreRegisters read → length read ≡ count → concat read ≡ slice bytes (at + 4) (32 * count) → read ≡ registers
-registers_read counter registers read bytes at count is are size are_too size_too told =
+registers_read counter registers read bytes at count is are size are_too size_too exact =
     let behind : drop (at + 4) bytes ≡ concat registers = sym (drop-drop 4 at bytes) ∙ ap (drop 4) is in
     let all : take (32 * count) (drop (at + 4) bytes) ≡ concat registers = ap (take (32 * count)) behind ∙ take_all (32 * count) (concat registers) (omega (arith, length-concat registers are, size)) in
-    same_registers read registers are_too are (size_too ∙ sym size) (told ∙ all)
+    same_registers read registers are_too are (size_too ∙ sym size) (exact ∙ all)
 
 -- what stands behind the header of a started TPM's volatile blob
-running_body : (v : TpmParts) → v.started ≡ true → drop 9 (text_of Volatile v) ≡ (1 ∷ long v.draws) ++ counted v.counter v.pcr
-unfolding text_of
+running_body : (v : TpmParts) → v.started ≡ true → drop 9 (encode_blob Volatile v) ≡ (1 ∷ long v.draws) ++ counted v.counter v.pcr
+unfolding encode_blob
 running_body v on = ap (λ (b : Bool). cond b ((1 ∷ long v.draws) ++ counted v.counter v.pcr) (0 ∷ [])) on
 
-pub told_running : (v : TpmParts) (bytes : List ℕ) → TellsVolatile bytes v → v.started ≡ true → bytes ≡ text_of Volatile v
-told_running v bytes (inl is) on = is
-told_running v bytes (inr (none, off)) on = absurd cc
+pub decoded_running : (v : TpmParts) (bytes : List ℕ) → TellsVolatile bytes v → v.started ≡ true → bytes ≡ encode_blob Volatile v
+decoded_running v bytes (inl is) on = is
+decoded_running v bytes (inr (none, off)) on = absurd cc
 
 pub counted_in_volatile : (v : TpmParts) (bytes : List ℕ) → TellsVolatile bytes v → v.started ≡ true → drop 18 bytes ≡ counted v.counter v.pcr
-counted_in_volatile v bytes told on = sym (drop-drop 9 9 bytes) ∙ ap (drop 9) (ap (drop 9) (told_running v bytes told on) ∙ running_body v on)
+counted_in_volatile v bytes exact on = sym (drop-drop 9 9 bytes) ∙ ap (drop 9) (ap (drop 9) (decoded_running v bytes exact on) ∙ running_body v on)
 
-pub draws_read : (v : TpmParts) (bytes : List ℕ) → IsFit v → TellsVolatile bytes v → v.started ≡ true → from_be_bytes w64 (slice bytes 10 8) ≡ v.draws
-draws_read v bytes fit told on =
-    ap (λ (rest : List ℕ). from_be_bytes w64 (take 8 rest)) (sym (drop-drop 1 9 bytes) ∙ ap (drop 1) (ap (drop 9) (told_running v bytes told on) ∙ running_body v on))
+pub draws_read : (v : TpmParts) (bytes : List ℕ) → IsValid v → TellsVolatile bytes v → v.started ≡ true → from_be_bytes w64 (slice bytes 10 8) ≡ v.draws
+draws_read v bytes fit exact on =
+    ap (λ (rest : List ℕ). from_be_bytes w64 (take 8 rest)) (sym (drop-drop 1 9 bytes) ∙ ap (drop 1) (ap (drop 9) (decoded_running v bytes exact on) ∙ running_body v on))
     ∙ from_be_bytes-to_be_bytes_8 v.draws fit.draws
 
-pub running_read : (v : TpmParts) (bytes : List ℕ) (r : Running) → IsFit v → TellsVolatile bytes v → eqb (get_or bytes 9 0) 1 ≡ true → r.draws ≡ from_be_bytes w64 (slice bytes 10 8)
+pub running_read : (v : TpmParts) (bytes : List ℕ) (r : Running) → IsValid v → TellsVolatile bytes v → eqb (get_or bytes 9 0) 1 ≡ true → r.draws ≡ from_be_bytes w64 (slice bytes 10 8)
     → r.counter ≡ from_be_bytes w32 (slice bytes 18 4) → concat r.pcr ≡ slice bytes 22 768 → AreRegisters r.pcr → length r.pcr ≡ 24 → Some r ≡ running_in v
-running_read v bytes r fit told flag draws counter pcr are size =
-    let on : v.started ≡ true = sym (started_read v bytes told) ∙ flag in
-    let behind = counted_in_volatile v bytes told on in
+running_read v bytes r fit exact flag draws counter pcr are size =
+    let on : v.started ≡ true = sym (started_read v bytes exact) ∙ flag in
+    let behind = counted_in_volatile v bytes exact on in
     let same : r ≡ record { draws = v.draws; counter = v.counter; pcr = v.pcr } =
-    same_running r (record { draws = v.draws; counter = v.counter; pcr = v.pcr }) (draws ∙ draws_read v bytes fit told on) (counter ∙ counter_read v.counter v.pcr bytes 18 fit.counter behind)
+    same_running r (record { draws = v.draws; counter = v.counter; pcr = v.pcr }) (draws ∙ draws_read v bytes fit exact on) (counter ∙ counter_read v.counter v.pcr bytes 18 fit.counter behind)
     (registers_read v.counter v.pcr r.pcr bytes 18 24 behind (pcr_are_registers v fit) (fit.registers Sha256) are size pcr) in
     ap (λ (x : Running). Some x) same ∙ sym (ap (λ (b : Bool). cond b (Some (record { draws = v.draws; counter = v.counter; pcr = v.pcr })) None) on)
 
 pub stopped_read : (v : TpmParts) (bytes : List ℕ) → TellsVolatile bytes v → eqb (get_or bytes 9 0) 1 ≡ false → running_in v ≡ None
-stopped_read v bytes told flag =
-    let off : v.started ≡ false = sym (started_read v bytes told) ∙ flag in
+stopped_read v bytes exact flag =
+    let off : v.started ≡ false = sym (started_read v bytes exact) ∙ flag in
     ap (λ (b : Bool). cond b (Some (record { draws = v.draws; counter = v.counter; pcr = v.pcr })) None) off
 
 -- ---- a saved state
 
-told_saved : (v : TpmParts) (bytes : List ℕ) → TellsSaved bytes v → is_some v.saved ≡ true → bytes ≡ text_of Saved v
-told_saved v bytes (inl is) there = is
-told_saved v bytes (inr (none, gone)) there = let never : is_some v.saved ≡ false = ap (λ (saved : Option SavedParts). is_some saved) gone in absurd cc
+decoded_saved : (v : TpmParts) (bytes : List ℕ) → TellsSaved bytes v → is_some v.saved ≡ true → bytes ≡ encode_blob Saved v
+decoded_saved v bytes (inl is) there = is
+decoded_saved v bytes (inr (none, gone)) there = let never : is_some v.saved ≡ false = ap (λ (saved : Option SavedParts). is_some saved) gone in absurd cc
 
-saved_body_read : (v : TpmParts) → drop 9 (text_of Saved v) ≡ saved_body v.saved
-unfolding text_of
+saved_body_read : (v : TpmParts) → drop 9 (encode_blob Saved v) ≡ saved_body v.saved
+unfolding encode_blob
 saved_body_read v = refl
 
 pub counted_in_saved : (v : TpmParts) (state : SavedParts) (bytes : List ℕ) → TellsSaved bytes v → v.saved ≡ Some state → drop 10 bytes ≡ counted state.counter state.pcr
-counted_in_saved v state bytes told is =
+counted_in_saved v state bytes exact is =
     let there : is_some v.saved ≡ true = ap (λ (saved : Option SavedParts). is_some saved) is in
-    sym (drop-drop 1 9 bytes) ∙ ap (drop 1) (ap (drop 9) (told_saved v bytes told there) ∙ saved_body_read v ∙ ap (λ (saved : Option SavedParts). saved_body saved) is)
+    sym (drop-drop 1 9 bytes) ∙ ap (drop 1) (ap (drop 9) (decoded_saved v bytes exact there) ∙ saved_body_read v ∙ ap (λ (saved : Option SavedParts). saved_body saved) is)
 
 state_read : (v : TpmParts) (saved : Option SavedParts) (bytes : List ℕ) (r : SavedParts) → v.saved ≡ saved → IfSome saved IsKept → is_some saved ≡ true → TellsSaved bytes v
     → r.counter ≡ from_be_bytes w32 (slice bytes 10 4) → concat r.pcr ≡ slice bytes 14 512 → AreRegisters r.pcr → length r.pcr ≡ 16 → Some r ≡ saved
-state_read v None bytes r is kept there told counter pcr are size = absurd cc
-state_read v (Some state) bytes r is kept there told counter pcr are size =
-    let behind = counted_in_saved v state bytes told is in
+state_read v None bytes r is kept there exact counter pcr are size = absurd cc
+state_read v (Some state) bytes r is kept there exact counter pcr are size =
+    let behind = counted_in_saved v state bytes exact is in
     ap (λ (x : SavedParts). Some x) (same_state r state (counter ∙ counter_read state.counter state.pcr bytes 10 kept.counter behind)
     (registers_read state.counter state.pcr r.pcr bytes 10 16 behind (kept_are_registers state kept) (kept.registers Sha256) are size pcr))
 
-pub saved_state_read : (v : TpmParts) (bytes : List ℕ) (r : SavedParts) → IsFit v → TellsSaved bytes v → eqb (get_or bytes 9 0) 1 ≡ true
+pub saved_state_read : (v : TpmParts) (bytes : List ℕ) (r : SavedParts) → IsValid v → TellsSaved bytes v → eqb (get_or bytes 9 0) 1 ≡ true
     → r.counter ≡ from_be_bytes w32 (slice bytes 10 4) → concat r.pcr ≡ slice bytes 14 512 → AreRegisters r.pcr → length r.pcr ≡ 16 → Some r ≡ v.saved
-saved_state_read v bytes r fit told flag counter pcr are size = state_read v v.saved bytes r refl fit.kept_fits (sym (saved_read v bytes told) ∙ flag) told counter pcr are size
+saved_state_read v bytes r fit exact flag counter pcr are size = state_read v v.saved bytes r refl fit.kept_fits (sym (saved_read v bytes exact) ∙ flag) exact counter pcr are size
 
 is_none : (saved : Option SavedParts) → is_some saved ≡ false → saved ≡ None
 is_none None off = refl
 is_none (Some state) off = absurd cc
 
 pub no_state_read : (v : TpmParts) (bytes : List ℕ) → TellsSaved bytes v → eqb (get_or bytes 9 0) 1 ≡ false → v.saved ≡ None
-no_state_read v bytes told flag = is_none v.saved (sym (saved_read v bytes told) ∙ flag)
+no_state_read v bytes exact flag = is_none v.saved (sym (saved_read v bytes exact) ∙ flag)

@@ -1,12 +1,12 @@
 pub mod Opens
-pub mod Marks
+pub mod Magics
 pub mod Registers
 pub mod Bodies
 pub mod Refused
-pub mod Told
+pub mod Decoding
 pub mod Fields
 pub mod Joined
 pub mod Once
 pub mod Apart
-pub mod Marked
+pub mod MagicRead
 pub mod Sizes

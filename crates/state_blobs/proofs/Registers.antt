@@ -19,7 +19,7 @@ length-concat [] h = refl
 length-concat (value ∷ values) h =
     omega (arith, length-append value (concat values), h 0 (omega arith), length-concat values (AreRegisters-tail value values h))
 
--- registers are told by their bytes
+-- registers are determined by their bytes
 pub same_registers : (xs ys : List (List ℕ)) → AreRegisters xs → AreRegisters ys → length xs ≡ length ys → concat xs ≡ concat ys → xs ≡ ys
 same_registers [] [] h k size same = refl
 same_registers [] (y ∷ ys) h k size same = absurd (omega (arith, size))
@@ -84,7 +84,7 @@ pub registers_more : (registers : List (List ℕ)) (i at : ℕ) (bytes field : L
 registers_more registers i at bytes field lt so_far is =
     ap concat (take_more_set registers i field lt)
     ∙ concat-append (take i registers) (field ∷ [])
-    ∙ ap (λ (front : List ℕ). front ++ (field ++ [])) so_far
+    ∙ ap (λ (prefix : List ℕ). prefix ++ (field ++ [])) so_far
     ∙ ap (λ (last : List ℕ). take (32 * i) (drop at bytes) ++ last) (append-nil field ∙ is ∙ ap (take 32) (sym (drop-drop (32 * i) at bytes)))
     ∙ sym (take-add (32 * i) 32 (drop at bytes))
     ∙ ap (λ (n : ℕ). take n (drop at bytes)) (omega arith)

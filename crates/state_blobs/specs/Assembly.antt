@@ -1,29 +1,29 @@
 -- What the bytes of three gathers make: a TPM, or a fault of the first that is to blame. (Own definitions.)
 use Rattle.std.specs.Prelude.{◌≡◌, ◌≢◌, ℕ, ◌⊎◌, true, false, List, [], length, Some, None, IsSome}
-use Rattle.vt_base.specs.declared.words.Kind.{Kind}
-use Rattle.vt_base.specs.declared.words.Kind.TheVariants.{Permanent, Volatile, Saved}
-use Rattle.vt_base.specs.declared.words.Why.{Why}
-use Rattle.vt_base.specs.declared.words.Why.TheVariants.{Value, Cut}
+use Rattle.vt_base.specs.declared.types.Kind.{Kind}
+use Rattle.vt_base.specs.declared.types.Kind.TheVariants.{Permanent, Volatile, Saved}
+use Rattle.vt_base.specs.declared.types.Why.{Why}
+use Rattle.vt_base.specs.declared.types.Why.TheVariants.{Value, Cut}
 use Rattle.vt_base.specs.Refusing.{malformed}
 use Rattle.tpm_core.specs.declared.parts.TpmParts.{TpmParts}
 use Rattle.tpm_core.specs.Answers.{kept}
-use Rattle.tpm_core.specs.Steps.{IsFit}
-use Rattle.state_blobs.specs.declared.words.BlobFault.{BlobFault}
-use Rattle.state_blobs.specs.Texts.{text_of, IsBlob}
+use Rattle.tpm_core.specs.Steps.{IsValid}
+use Rattle.state_blobs.specs.declared.types.BlobFault.{BlobFault}
+use Rattle.state_blobs.specs.Encodings.{encode_blob, IsBlob}
 use Rattle.state_blobs.specs.Refusals.{FirstDiffersAt}
 
 -- the blob of what a TPM loses with its power: it may be left out where the TPM isn't started
 abbrev pub TellsVolatile : List ℕ → TpmParts → Type 0
-TellsVolatile bytes tpm = (bytes ≡ text_of Volatile tpm) ⊎ ((bytes ≡ []) × (tpm.started ≡ false))
+TellsVolatile bytes tpm = (bytes ≡ encode_blob Volatile tpm) ⊎ ((bytes ≡ []) × (tpm.started ≡ false))
 
 -- the blob of its saved state: it may be left out where there is none
 abbrev pub TellsSaved : List ℕ → TpmParts → Type 0
-TellsSaved bytes tpm = (bytes ≡ text_of Saved tpm) ⊎ ((bytes ≡ []) × (tpm.saved ≡ None))
+TellsSaved bytes tpm = (bytes ≡ encode_blob Saved tpm) ⊎ ((bytes ≡ []) × (tpm.saved ≡ None))
 
 -- The three are the blobs of this TPM.
 pub record IsAssembled (permanent volatile saved : List ℕ) (tpm : TpmParts) : Type 0 where
-  pub fit : IsFit tpm
-  pub is_permanent : permanent ≡ text_of Permanent tpm
+  pub fit : IsValid tpm
+  pub is_permanent : permanent ≡ encode_blob Permanent tpm
   pub is_volatile : TellsVolatile volatile tpm
   pub is_saved : TellsSaved saved tpm
 
@@ -38,14 +38,14 @@ IsUnfinished kind bytes = (bytes ≢ []) × (IsBlob kind bytes → ⊥)
 -- the volatile blob is that of a started TPM, there is a saved state, and it isn't that of the registers: its blob first differs here
 pub record Disagrees (place : ℕ) (volatile saved : List ℕ) : Type 0 where
   pub running : TpmParts
-  pub is_fit : IsFit running
+  pub is_fit : IsValid running
   pub is_started : running.started ≡ true
-  pub is_volatile : volatile ≡ text_of Volatile running
+  pub is_volatile : volatile ≡ encode_blob Volatile running
   pub saving : TpmParts
-  pub is_fit_too : IsFit saving
+  pub is_fit_too : IsValid saving
   pub is_there : IsSome saving.saved
-  pub is_saved : saved ≡ text_of Saved saving
-  pub first : FirstDiffersAt place saved (text_of Saved (record running { saved = Some (kept running) }))
+  pub is_saved : saved ≡ encode_blob Saved saving
+  pub first : FirstDiffersAt place saved (encode_blob Saved (record running { saved = Some (kept running) }))
 
 -- the fault of a blob that ends too soon
 abbrev pub cut_at : Kind → List ℕ → BlobFault

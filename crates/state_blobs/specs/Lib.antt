@@ -1,6 +1,6 @@
 pub mod Numbers
 pub mod Running
-pub mod Texts
+pub mod Encodings
 pub mod Blobs
 pub mod Room
 pub mod Refusals

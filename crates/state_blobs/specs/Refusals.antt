@@ -1,12 +1,12 @@
 -- Why bytes are refused as a blob: the table of refusals, row by row. (Own definitions.)
 use Rattle.std.specs.Prelude.{◌≡◌, ◌≢◌, ℕ, ◌<◌, ◌≤◌, true, false, List, [], ◌∷◌, ◌++◌, length, take, slice_index}
 use Rattle.std.specs.Int.{w32, from_be_bytes}
-use Rattle.vt_base.specs.declared.words.Kind.{Kind}
-use Rattle.vt_base.specs.declared.words.Why.{Why}
-use Rattle.vt_base.specs.declared.words.Why.TheVariants.{Magic, Version, Length, Value, Cut, Extra}
-use Rattle.vt_base.specs.declared.words.Malformed.{Malformed}
+use Rattle.vt_base.specs.declared.types.Kind.{Kind}
+use Rattle.vt_base.specs.declared.types.Why.{Why}
+use Rattle.vt_base.specs.declared.types.Why.TheVariants.{Magic, Version, Length, Value, Cut, Extra}
+use Rattle.vt_base.specs.declared.types.Malformed.{Malformed}
 use Rattle.state_blobs.specs.Numbers.{version, version_place, length_place, body_place}
-use Rattle.state_blobs.specs.Texts.{magic_of, slice, IsBlob, is_length, flag_fits}
+use Rattle.state_blobs.specs.Encodings.{magic_of, slice, IsBlob, is_length, flag_fits}
 
 -- the first place where a list isn't what is wanted
 pub record FirstDiffersAt (place : ℕ) (bytes wanted : List ℕ) : Type 0 where
@@ -23,7 +23,7 @@ BeginsAsBlob kind bytes = take 5 bytes ≡ magic_of kind ++ version ∷ []
 abbrev pub length_field : List ℕ → ℕ
 length_field bytes = from_be_bytes w32 (slice bytes length_place 4)
 
--- Each row says that the fields before its own are in order. A field is judged when it is whole; in a magic each byte is one.
+-- Each row says that the fields before its own are in order. A field is checked when it is whole; in a magic each byte is one.
 abbrev pub IsRefusedFor : Kind → Why → ℕ → List ℕ → Type 0
 IsRefusedFor kind Magic place bytes = FirstDiffersAt place bytes (magic_of kind)
 IsRefusedFor kind Version place bytes = (place ≡ version_place) × (version_place < length bytes) × (take 4 bytes ≡ magic_of kind) × (slice_index bytes version_place ≢ version)

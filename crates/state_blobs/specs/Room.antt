@@ -6,12 +6,12 @@ use Rattle.std.proofs.lemmas.Bool.Decides.{nat_tests}
 use Rattle.std.specs.Int.{from_be_bytes, w32}
 use Rattle.vt_base.specs.Layout.{IsWithin}
 use Rattle.vt_base.specs.Refusing.{refuse}
-use Rattle.vt_base.specs.Within.{either_within, mark_within}
-use Rattle.vt_base.specs.declared.words.Kind.{Kind}
-use Rattle.vt_base.specs.declared.words.Kind.TheVariants.{Permanent, Volatile, Saved}
-use Rattle.vt_base.specs.declared.words.Why.TheVariants.{Magic, Version, Length, Value}
+use Rattle.vt_base.specs.Within.{either_within, magic_byte_within}
+use Rattle.vt_base.specs.declared.types.Kind.{Kind}
+use Rattle.vt_base.specs.declared.types.Kind.TheVariants.{Permanent, Volatile, Saved}
+use Rattle.vt_base.specs.declared.types.Why.TheVariants.{Magic, Version, Length, Value}
 use Rattle.state_blobs.specs.Numbers.{largest_blob}
-use Rattle.state_blobs.specs.Texts.{letter_of, is_length, flag_fits}
+use Rattle.state_blobs.specs.Encodings.{letter_of, is_length, flag_fits}
 use Rattle.state_blobs.specs.Blobs.{body_then, blob}
 
 either_is : (n a b : ℕ) → eqb n a || eqb n b ≡ true → a ≤ 781 → b ≤ 781 → n ≤ 781
@@ -29,5 +29,5 @@ body_within kind count le = (lit≤ tt, λ flag. either_within (flag_fits kind c
 pub blob_within : (kind : Kind) → IsWithin (blob kind) largest_blob
 unfolding blob
 blob_within kind =
-    mark_within 67 Magic 0 _ 790 (lit≤ tt) (mark_within 82 Magic 1 _ 789 (lit≤ tt) (mark_within 66 Magic 2 _ 788 (lit≤ tt) (mark_within (letter_of kind) Magic 3 _ 787 (lit≤ tt)
-    (mark_within 1 Version 4 _ 786 (lit≤ tt) (lit≤ tt, λ field. either_within (is_length kind (from_be_bytes w32 field)) _ (refuse Length 5) 781 (λ is. body_within kind (from_be_bytes w32 field) (length_bound kind (from_be_bytes w32 field) is)) (λ _. tt))))))
+    magic_byte_within 67 Magic 0 _ 790 (lit≤ tt) (magic_byte_within 82 Magic 1 _ 789 (lit≤ tt) (magic_byte_within 66 Magic 2 _ 788 (lit≤ tt) (magic_byte_within (letter_of kind) Magic 3 _ 787 (lit≤ tt)
+    (magic_byte_within 1 Version 4 _ 786 (lit≤ tt) (lit≤ tt, λ field. either_within (is_length kind (from_be_bytes w32 field)) _ (refuse Length 5) 781 (λ is. body_within kind (from_be_bytes w32 field) (length_bound kind (from_be_bytes w32 field) is)) (λ _. tt))))))

@@ -3,17 +3,17 @@
 ghost use Rattle.std.specs.Prelude.{◌≡◌, ◌++◌, length, take, drop, true, IfOk, IfErr, OnOk, OnErr, IfSome, IfNone};
 ghost use Rattle.tpm_core.specs.declared.parts.TpmParts.{TpmParts};
 ghost use Rattle.tpm_core.specs.Answers.{kept};
-ghost use Rattle.tpm_core.specs.Steps.{IsFit};
-ghost use Rattle.state_blobs.specs.Texts.{slice, IsBlob};
+ghost use Rattle.tpm_core.specs.Steps.{IsValid};
+ghost use Rattle.state_blobs.specs.Encodings.{slice, IsBlob};
 ghost use Rattle.state_blobs.specs.Refusals.{FirstDiffersAt, IsCut};
 ghost use Rattle.state_blobs.specs.Assembly.{TellsVolatile, TellsSaved, IsNoneOrBlob, IsUnfinished, cut_at, IsAssembled, Disagrees, IsFault};
 ghost use Rattle.state_blobs.specs.Reading.{parts_with};
-ghost use Rattle.vt_base.specs.declared.words.Kind.TheVariants.{Permanent, Volatile, Saved};
+ghost use Rattle.vt_base.specs.declared.types.Kind.TheVariants.{Permanent, Volatile, Saved};
 
 use crate::format::{KEPT_SIZE, RUNNING_PLACE, SAVED_PLACE};
 use crate::gather::Gather;
 use crate::read::{Running, has_values, permanent_of, running_of, saved_of};
-use crate::words::BlobFault;
+use crate::types::BlobFault;
 use tpm_core::{PCR_COUNT, SEED_SIZE, SHA256_DIGEST_SIZE, SavedParts, Tpm, TpmParts};
 use vt_base::{Kind, Malformed, Why};
 
@@ -127,7 +127,7 @@ fn disagreement(volatile: &[u8], saved: &[u8]) -> Option<u32>
     requires volatile { IsNoneOrBlob Volatile volatile.now }
     requires saved { IsNoneOrBlob Saved saved.now }
     ensures place { IfSome result (λ place. Disagrees place volatile.now saved.now) }
-    ensures agrees { IfNone result ((v z : TpmParts) → IsFit v → TellsVolatile volatile.now v → IsFit z → TellsSaved saved.now z
+    ensures agrees { IfNone result ((v z : TpmParts) → IsValid v → TellsVolatile volatile.now v → IsValid z → TellsSaved saved.now z
         → v.started ≡ true → IfSome z.saved (λ state. state ≡ kept v)) }
 {
     if !has_values(volatile) || !has_values(saved) {

@@ -1,8 +1,8 @@
-//! The judge of blobs.
+//! The parser of blobs.
 
 ghost use Rattle.std.specs.Prelude.{◌≡◌, true};
-ghost use Rattle.vt_base.specs.Verdict.{judged};
-ghost use Rattle.state_blobs.specs.Texts.{magic_of, is_length, flag_for, flag_fits};
+ghost use Rattle.vt_base.specs.Parsing.{parsed};
+ghost use Rattle.state_blobs.specs.Encodings.{magic_of, is_length, flag_for, flag_fits};
 ghost use Rattle.state_blobs.specs.Blobs.{body_then, after_magic, blob};
 ghost use Rattle.state_blobs.specs.Room.{blob_within};
 
@@ -11,7 +11,7 @@ use crate::format::{
     VOLATILE_LENGTH,
 };
 use vt_base::{
-    Grammar, Judged, Kind, Malformed, Missing, Why, behind_magic, byte_of, field_of, number_of,
+    Grammar, Kind, Malformed, Missing, Parsed, Why, behind_magic, byte_of, field_of, number_of,
     refused,
 };
 
@@ -55,9 +55,9 @@ fn flag_fits(kind: Kind, count: u32, flag: u8) -> bool
     }
 }
 
-fn body_of(kind: Kind, count: u32, rest: &[u8]) -> Judged<()>
+fn body_of(kind: Kind, count: u32, rest: &[u8]) -> Parsed<()>
     requires { is_length kind count ≡ true }
-    ensures { result ≡ judged (body_then kind count) rest.now }
+    ensures { result ≡ parsed (body_then kind count) rest.now }
 {
     let (flag, rest) = byte_of(rest)?;
     if !flag_fits(kind, count, flag) {
@@ -67,8 +67,8 @@ fn body_of(kind: Kind, count: u32, rest: &[u8]) -> Judged<()>
     Ok(Ok(()))
 }
 
-fn after_magic(kind: Kind, rest: &[u8]) -> Judged<()>
-    ensures { result ≡ judged (after_magic kind) rest.now }
+fn after_magic(kind: Kind, rest: &[u8]) -> Parsed<()>
+    ensures { result ≡ parsed (after_magic kind) rest.now }
 {
     let (version, rest) = byte_of(rest)?;
     if version != VERSION {
@@ -90,8 +90,8 @@ impl Grammar for Blobs {
 
     ghost within = { λ g. blob_within g.0 };
 
-    #[tactic(auto, using(crate::proofs::Marked::judged_blob))]
-    fn judge(&self, bytes: &[u8]) -> Result<Result<(), Malformed>, Missing> {
+    #[tactic(auto, using(crate::proofs::MagicRead::parsed_blob))]
+    fn parse(&self, bytes: &[u8]) -> Result<Result<(), Malformed>, Missing> {
         match behind_magic(bytes, magic(self.0))? {
             Ok(rest) => after_magic(self.0, rest),
             Err(fault) => Ok(Err(fault)),

@@ -3,31 +3,31 @@
 ghost use Rattle.std.specs.Prelude.{◌≡◌, ◌≤◌, ◌++◌, ◌↔◌, length, [], true, false, IsTrue, IfOk, IfErr, OnOk, OnErr, Ok};
 ghost use Rattle.std.specs.Bool.{OnTrue, OnFalse};
 ghost use Rattle.vt_base.specs.Numbers.{IsBytes};
-ghost use Rattle.vt_base.specs.Layout.{IsOpen, Spells};
+ghost use Rattle.vt_base.specs.Layout.{IsOpen, Encodes};
 ghost use Rattle.vt_base.specs.Refusing.{malformed};
-ghost use Rattle.state_blobs.specs.Texts.{IsBlob};
+ghost use Rattle.state_blobs.specs.Encodings.{IsBlob};
 ghost use Rattle.state_blobs.specs.Blobs.{blob};
 ghost use Rattle.state_blobs.specs.Refusals.{IsRefused, IsCut};
-ghost use Rattle.vt_base.specs.declared.words.Why.TheVariants.{Extra};
+ghost use Rattle.vt_base.specs.declared.types.Why.TheVariants.{Extra};
 
 use crate::blobs::Blobs;
 use crate::format::LARGEST_BLOB;
 use std::alloc::{AllocError, Global};
 use std::marker::Model;
-use vt_base::{Held, Kind, Malformed, Why};
+use vt_base::{ByteBuf, Kind, Malformed, Why};
 
 /// Gathers the blob of one kind from pieces; seen as its kind, the bytes so far, and whether they are the whole blob.
 #[derive(Drop)]
 pub struct Gather {
     kind: Kind,
-    held: Box<Held<LARGEST_BLOB>>,
+    held: Box<ByteBuf<LARGEST_BLOB>>,
     whole: bool,
 }
 
 impl Model for Gather {
     ghost use Rattle.std.specs.Prelude.{Ok};
     ghost use Rattle.std.specs.Bool.{OnTrue, OnFalse};
-    ghost use Rattle.vt_base.specs.Layout.{IsOpen, Spells};
+    ghost use Rattle.vt_base.specs.Layout.{IsOpen, Encodes};
     ghost use Rattle.state_blobs.specs.Blobs.{blob};
     ghost use Rattle.state_blobs.specs.Gathering.{Gathering};
 
@@ -35,7 +35,7 @@ impl Model for Gather {
 
     ghost view = { λ g. record { kind = g.kind; begun = g.held.value; whole = g.whole } };
 
-    ghost invariant = { λ g. OnFalse g.whole (IsOpen (blob g.kind) g.held.value) × OnTrue g.whole (Spells (blob g.kind) (Ok tt) g.held.value) };
+    ghost invariant = { λ g. OnFalse g.whole (IsOpen (blob g.kind) g.held.value) × OnTrue g.whole (Encodes (blob g.kind) (Ok tt) g.held.value) };
 }
 
 impl Gather {
@@ -46,7 +46,7 @@ impl Gather {
     {
         Ok(Gather {
             kind,
-            held: Box::new(alloc, Held::new())?,
+            held: Box::new(alloc, ByteBuf::new())?,
             whole: false,
         })
     }
@@ -59,13 +59,13 @@ impl Gather {
     }
 
     /// The bytes so far; every clause of a gather speaks of them.
-    #[tactic(auto, using(crate::proofs::Told::blob_if_whole, crate::proofs::Told::cut_if_not))]
+    #[tactic(auto, using(crate::proofs::Decoding::blob_if_whole, crate::proofs::Decoding::cut_if_not))]
     pub(crate) fn begun(&self) -> &[u8]
         ensures bytes { result.now ≡ self.now.begun }
         ensures fits { IsBytes self.now.begun }
         ensures blob { OnTrue self.now.whole (IsBlob self.now.kind self.now.begun) }
         ensures cut { OnFalse self.now.whole (IsCut self.now.kind self.now.begun) }
-        ensures few { length self.now.begun ≤ 790 }
+        ensures within_limit { length self.now.begun ≤ 790 }
     {
         self.held.as_slice()
     }
@@ -103,7 +103,7 @@ impl Gather {
 
     /// Takes a piece, and answers whether the blob is whole. An empty piece changes nothing. A piece is taken whole or, where
     /// a byte of it is refused, not at all.
-    #[tactic(auto, using(crate::proofs::Told::blob_if_told, crate::proofs::Told::cut_if_not))]
+    #[tactic(auto, using(crate::proofs::Decoding::blob_if_decoded, crate::proofs::Decoding::cut_if_not))]
     pub fn push(&mut self, bytes: &[u8]) -> Result<bool, Malformed>
         ensures ok { IfOk result (λ whole. self.new ≡ record self.old { begun = self.old.begun ++ bytes.now; whole = whole }) }
         ensures whole { IfOk result (λ whole. OnTrue whole (IsBlob self.old.kind (self.old.begun ++ bytes.now))) }
@@ -120,7 +120,7 @@ impl Gather {
         ensures ok { IfOk result (λ whole. self.new ≡ record self.old { begun = self.old.begun ++ bytes.now; whole = whole }) }
         ensures fits { OnOk result (IsBytes (self.old.begun ++ bytes.now)) }
         ensures part { IfOk result (λ whole. OnFalse whole (IsOpen (blob self.old.kind) (self.old.begun ++ bytes.now))) }
-        ensures whole { IfOk result (λ whole. OnTrue whole (Spells (blob self.old.kind) (Ok tt) (self.old.begun ++ bytes.now))) }
+        ensures whole { IfOk result (λ whole. OnTrue whole (Encodes (blob self.old.kind) (Ok tt) (self.old.begun ++ bytes.now))) }
         ensures refused { IfErr result (λ fault. IsRefused self.old.kind fault (self.old.begun ++ bytes.now)) }
         ensures err { OnErr result (self.new ≡ self.old) }
         ensures kind { self.new.kind ≡ self.old.kind }

@@ -13,22 +13,22 @@
 //! let tpm = assemble(&permanent, &volatile, &saved)?;
 //! ```
 //!
-//! The format is our own, and each value has one spelling. What the bytes are sent over, and when a TPM may be taken
+//! The format is our own, and each value has one encoding. What the bytes are sent over, and when a TPM may be taken
 //! apart, is left to others.
 #![tactic(auto)]
 
 mod assembly;
 mod blobs;
+mod encode;
 mod format;
 mod gather;
 pub mod laws;
 mod pieces;
 mod read;
-mod text;
-mod words;
+mod types;
 
 pub use assembly::assemble;
 pub use format::LARGEST_BLOB;
 pub use gather::Gather;
 pub use pieces::piece;
-pub use words::{BlobFault, Piece};
+pub use types::{BlobFault, Piece};

@@ -1,15 +1,15 @@
-//! The values that whole blobs spell.
+//! The values that whole blobs encode.
 
 ghost use Rattle.std.specs.Prelude.{◌≡◌, ◌+◌, ◌*◌, ◌≤◌, ◌==◌, length, slice_index};
 ghost use Rattle.std.specs.List.{concat};
 ghost use Rattle.std.specs.Int.{w32, from_be_bytes};
 ghost use Rattle.tpm_core.specs.declared.parts.TpmParts.{TpmParts};
-ghost use Rattle.tpm_core.specs.Steps.{IsFit};
+ghost use Rattle.tpm_core.specs.Steps.{IsValid};
 ghost use Rattle.state_blobs.specs.Running.{AreRegisters};
-ghost use Rattle.state_blobs.specs.Texts.{slice, text_of, IsBlob};
+ghost use Rattle.state_blobs.specs.Encodings.{slice, encode_blob, IsBlob};
 ghost use Rattle.state_blobs.specs.Reading.{running_in};
 ghost use Rattle.state_blobs.specs.Assembly.{TellsVolatile, TellsSaved, IsNoneOrBlob};
-ghost use Rattle.vt_base.specs.declared.words.Kind.TheVariants.{Permanent, Volatile, Saved};
+ghost use Rattle.vt_base.specs.declared.types.Kind.TheVariants.{Permanent, Volatile, Saved};
 
 use crate::format::{
     BOOTS_PLACE, COUNTER_SIZE, DRAWS_PLACE, FLAG_PLACE, HEADER_SIZE, RUNNING_PLACE, SAVED_PLACE,
@@ -24,20 +24,20 @@ pub struct Running {
     pub pcr: [[u8; SHA256_DIGEST_SIZE]; PCR_COUNT],
 }
 
-/// The seed and the count of boots that a permanent blob tells.
+/// The seed and the count of boots that a permanent blob gives.
 pub fn permanent_of(blob: &[u8]) -> ([u8; SEED_SIZE], u64)
     requires { IsBlob Permanent blob.now }
-    ensures seed { (v : TpmParts) → IsFit v → blob.now ≡ text_of Permanent v → result.0 ≡ v.seed }
-    ensures boots { (v : TpmParts) → IsFit v → blob.now ≡ text_of Permanent v → result.1 ≡ v.boots }
+    ensures seed { (v : TpmParts) → IsValid v → blob.now ≡ encode_blob Permanent v → result.0 ≡ v.seed }
+    ensures boots { (v : TpmParts) → IsValid v → blob.now ≡ encode_blob Permanent v → result.1 ≡ v.boots }
 {
     let boots = u64::from_be_bytes(array_at(blob, BOOTS_PLACE));
     (array_at(blob, HEADER_SIZE), boots)
 }
 
-/// What a volatile blob tells of a started TPM, where it is of one.
+/// What a volatile blob says of a started TPM, where it is of one.
 pub fn running_of(blob: &[u8]) -> Option<Running>
     requires { IsNoneOrBlob Volatile blob.now }
-    ensures { (v : TpmParts) → IsFit v → TellsVolatile blob.now v → result ≡ running_in v }
+    ensures { (v : TpmParts) → IsValid v → TellsVolatile blob.now v → result ≡ running_in v }
 {
     if !has_values(blob) {
         return None;
@@ -51,10 +51,10 @@ pub fn running_of(blob: &[u8]) -> Option<Running>
     })
 }
 
-/// The saved state that its blob tells, where there is one.
+/// The saved state that its blob gives, where there is one.
 pub fn saved_of(blob: &[u8]) -> Option<SavedParts>
     requires { IsNoneOrBlob Saved blob.now }
-    ensures { (v : TpmParts) → IsFit v → TellsSaved blob.now v → result ≡ v.saved }
+    ensures { (v : TpmParts) → IsValid v → TellsSaved blob.now v → result ≡ v.saved }
 {
     if !has_values(blob) {
         return None;

@@ -61,17 +61,17 @@ takes_no_more bits room i size chosen is len le =
 abbrev pub no_selection : Selection
 no_selection = record { algorithm = Sha256; bits = [] }
 
-entries_step : (front : List ℕ) (room : ℕ) (selection : Selection) (others : List Selection) (mine : List ℕ) → mine ≡ take room (selected selection.bits)
-    → front ++ flat_map entry_read (chosen_of room (selection ∷ others)) ≡ (front ++ entry_read (selection.algorithm, mine)) ++ flat_map entry_read (chosen_of (room - length mine) others)
+entries_step : (prefix : List ℕ) (room : ℕ) (selection : Selection) (others : List Selection) (mine : List ℕ) → mine ≡ take room (selected selection.bits)
+    → prefix ++ flat_map entry_read (chosen_of room (selection ∷ others)) ≡ (prefix ++ entry_read (selection.algorithm, mine)) ++ flat_map entry_read (chosen_of (room - length mine) others)
 unfolding chosen_of
-entries_step front room selection others mine e =
-    rw (← e, flat_map-cons entry_read (selection.algorithm, mine) (chosen_of (room - length mine) others)) (sym (append_assoc front (entry_read (selection.algorithm, mine)) (flat_map entry_read (chosen_of (room - length mine) others))))
+entries_step prefix room selection others mine e =
+    rw (← e, flat_map-cons entry_read (selection.algorithm, mine) (chosen_of (room - length mine) others)) (sym (append_assoc prefix (entry_read (selection.algorithm, mine)) (flat_map entry_read (chosen_of (room - length mine) others))))
 
-registers_step : (front : List Register) (room : ℕ) (selection : Selection) (others : List Selection) (mine : List ℕ) → mine ≡ take room (selected selection.bits)
-    → front ++ all_registers (chosen_of room (selection ∷ others)) ≡ (front ++ registers_of selection.algorithm mine) ++ all_registers (chosen_of (room - length mine) others)
+registers_step : (prefix : List Register) (room : ℕ) (selection : Selection) (others : List Selection) (mine : List ℕ) → mine ≡ take room (selected selection.bits)
+    → prefix ++ all_registers (chosen_of room (selection ∷ others)) ≡ (prefix ++ registers_of selection.algorithm mine) ++ all_registers (chosen_of (room - length mine) others)
 unfolding chosen_of
-registers_step front room selection others mine e =
-    rw (← e, flat_map-cons (λ (c : Algorithm × List ℕ). registers_of c.0 c.1) (selection.algorithm, mine) (chosen_of (room - length mine) others)) (sym (append_assoc front (registers_of selection.algorithm mine) (all_registers (chosen_of (room - length mine) others))))
+registers_step prefix room selection others mine e =
+    rw (← e, flat_map-cons (λ (c : Algorithm × List ℕ). registers_of c.0 c.1) (selection.algorithm, mine) (chosen_of (room - length mine) others)) (sym (append_assoc prefix (registers_of selection.algorithm mine) (all_registers (chosen_of (room - length mine) others))))
 
 -- below 24 these are all
 pub all_chosen : (bits : List ℕ) (room i : ℕ) → i ≡ 24 → chosen_below bits room i ≡ take room (selected bits)
@@ -79,13 +79,13 @@ unfolding selected
 all_chosen bits room i e = ap (λ (k : ℕ). take room (filter (is_selected bits) (range_with_len 0 k))) e
 
 -- with no selection left nothing is left
-pub none_left : (front : List Register) (room i : ℕ) (selections : List Selection) → length selections ≤ i → front ++ all_registers (chosen_of room (drop i selections)) ≡ front
+pub none_left : (prefix : List Register) (room i : ℕ) (selections : List Selection) → length selections ≤ i → prefix ++ all_registers (chosen_of room (drop i selections)) ≡ prefix
 unfolding chosen_of
-none_left front room i selections le = rw (drop_all i selections le) (append-nil front)
+none_left prefix room i selections le = rw (drop_all i selections le) (append-nil prefix)
 
-pub no_entry_left : (front : List ℕ) (room i : ℕ) (selections : List Selection) → length selections ≤ i → front ++ flat_map entry_read (chosen_of room (drop i selections)) ≡ front
+pub no_entry_left : (prefix : List ℕ) (room i : ℕ) (selections : List Selection) → length selections ≤ i → prefix ++ flat_map entry_read (chosen_of room (drop i selections)) ≡ prefix
 unfolding chosen_of
-no_entry_left front room i selections le = rw (drop_all i selections le) (append-nil front)
+no_entry_left prefix room i selections le = rw (drop_all i selections le) (append-nil prefix)
 
 -- the selection at a place, and those after it
 drop_step : (selections : List Selection) (i : ℕ) (d : Selection) → i < length selections → drop i selections ≡ get_or selections i d ∷ drop (i + 1) selections
@@ -98,10 +98,10 @@ length-registers_of a (i ∷ indices) = ap suc (length-registers_of a indices)
 room_left : (all all' : List Register) (a : Algorithm) (mine : List ℕ) → all' ≡ all ++ registers_of a mine → 8 - length all' ≡ (8 - length all) - length mine
 room_left all all' a mine e = omega (arith, ap length e, length-append all (registers_of a mine), length-registers_of a mine)
 
-pub entries_turn : (front : List ℕ) (all all' : List Register) (mine : List ℕ) (selections : List Selection) (i : ℕ) (d : Selection) → i < length selections → mine ≡ take (8 - length all) (selected (get_or selections i d).bits) → all' ≡ all ++ registers_of (get_or selections i d).algorithm mine
-    → (front ++ entry_read ((get_or selections i d).algorithm, mine)) ++ flat_map entry_read (chosen_of (8 - length all') (drop (i + 1) selections)) ≡ front ++ flat_map entry_read (chosen_of (8 - length all) (drop i selections))
-entries_turn front all all' mine selections i d lt is grown =
-    rw (drop_step selections i d lt, room_left all all' (get_or selections i d).algorithm mine grown) (sym (entries_step front (8 - length all) (get_or selections i d) (drop (i + 1) selections) mine is))
+pub entries_turn : (prefix : List ℕ) (all all' : List Register) (mine : List ℕ) (selections : List Selection) (i : ℕ) (d : Selection) → i < length selections → mine ≡ take (8 - length all) (selected (get_or selections i d).bits) → all' ≡ all ++ registers_of (get_or selections i d).algorithm mine
+    → (prefix ++ entry_read ((get_or selections i d).algorithm, mine)) ++ flat_map entry_read (chosen_of (8 - length all') (drop (i + 1) selections)) ≡ prefix ++ flat_map entry_read (chosen_of (8 - length all) (drop i selections))
+entries_turn prefix all all' mine selections i d lt is grown =
+    rw (drop_step selections i d lt, room_left all all' (get_or selections i d).algorithm mine grown) (sym (entries_step prefix (8 - length all) (get_or selections i d) (drop (i + 1) selections) mine is))
 
 pub registers_turn : (all all' : List Register) (mine : List ℕ) (selections : List Selection) (i : ℕ) (d : Selection) → i < length selections → mine ≡ take (8 - length all) (selected (get_or selections i d).bits) → all' ≡ all ++ registers_of (get_or selections i d).algorithm mine
     → all' ++ all_registers (chosen_of (8 - length all') (drop (i + 1) selections)) ≡ all ++ all_registers (chosen_of (8 - length all) (drop i selections))
@@ -138,9 +138,9 @@ first_read room (selection ∷ others) =
     let a = selection.algorithm in
     let mine = take room (selected selection.bits) in
     let register : ℕ → Register = λ index. record { algorithm = a; index = index } in
-    let front : registers_of a mine ≡ take room (registers_of a (selected selection.bits)) = sym (take-map register room (selected selection.bits)) in
-    let left : room - length mine ≡ room - length (take room (registers_of a (selected selection.bits))) = ap (λ (n : ℕ). room - n) (sym (length-registers_of a mine) ∙ ap length front) in
+    let prefix : registers_of a mine ≡ take room (registers_of a (selected selection.bits)) = sym (take-map register room (selected selection.bits)) in
+    let left : room - length mine ≡ room - length (take room (registers_of a (selected selection.bits))) = ap (λ (n : ℕ). room - n) (sym (length-registers_of a mine) ∙ ap length prefix) in
     flat_map-cons (λ (c : Algorithm × List ℕ). registers_of c.0 c.1) (a, mine) (chosen_of (room - length mine) others)
     ∙ ap (λ (rs : List Register). registers_of a mine ++ rs) (first_read (room - length mine) others)
-    ∙ rw (front, left) (take_both room (registers_of a (selected selection.bits)) (wanted_of others))
+    ∙ rw (prefix, left) (take_both room (registers_of a (selected selection.bits)) (wanted_of others))
     ∙ ap (take room) (sym (flat_map-cons (λ (s : Selection). registers_of s.algorithm (selected s.bits)) selection others))

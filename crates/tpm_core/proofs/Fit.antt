@@ -12,20 +12,20 @@ use Rattle.tpm_core.specs.Algorithms.{digest_size, digest_of, digests_by}
 use Rattle.tpm_core.specs.Banks.{zeros, ones, is_dynamic, blank_bank, each_register, start_value, hashed, bank_of, kept_bank_of}
 use Rattle.tpm_core.specs.Fresh.{manufactured}
 use Rattle.sha2.proofs.Facts256.{length-sha256}
-use Rattle.tpm_core.specs.Past.{Deed, booted, started, shut_down, drew, extended, boots_of, is_started, draws_of, saved_state, starting_value, starting_counter, digests_since, count_since, register_value, counter_of, values, value_at_start, counter_at_start}
+use Rattle.tpm_core.specs.Past.{StateChange, booted, started, shut_down, drew, extended, boots_of, is_started, draws_of, saved_state, starting_value, starting_counter, digests_since, count_since, register_value, counter_of, values, value_at_start, counter_at_start}
 use Rattle.tpm_core.specs.Answers.{kept}
-use Rattle.tpm_core.specs.Steps.{IsFit, IsKept, IsStopped, HaveWidth, after, CanDo}
+use Rattle.tpm_core.specs.Steps.{IsValid, IsKept, IsStopped, HaveWidth, after, CanDo}
 use Rattle.tpm_core.proofs.Looking.{same_parts, same_bank, get_register, length-each_register, values-booted, values-started, values-shut_down, values-drew, values-extended}
 
--- one more deed
-pub values-cons : (b : TpmParts) (past : List Deed) (deed : Deed) → CanDo (values b past) deed → values b (deed ∷ past) ≡ after (values b past) deed
+-- one more state change
+pub values-cons : (b : TpmParts) (past : List StateChange) (change : StateChange) → CanDo (values b past) change → values b (change ∷ past) ≡ after (values b past) change
 values-cons b past booted can = values-booted b past
 values-cons b past (started state) can = values-started b past state can
 values-cons b past (shut_down state) can = values-shut_down b past state
 values-cons b past drew can = values-drew b past
 values-cons b past (extended i measurements) can = values-extended b past i measurements can.0 can.1
 
--- with no deed the values are those of b
+-- with no state change the values are those of b
 value_on : (b : TpmParts) (a : Algorithm) → b.started ≡ true → (i : ℕ) → register_value b [] a i ≡ get_or (bank_of a b) i []
 unfolding register_value is_started starting_value digests_since
 value_on b a on i = rw on refl
@@ -34,7 +34,7 @@ value_off : (b : TpmParts) (a : Algorithm) → b.started ≡ false → (i : ℕ)
 unfolding register_value is_started
 value_off b a off i = rw off refl
 
-bank_on : (b : TpmParts) (a : Algorithm) → IsFit b → b.started ≡ true → each_register (register_value b [] a) ≡ bank_of a b
+bank_on : (b : TpmParts) (a : Algorithm) → IsValid b → b.started ≡ true → each_register (register_value b [] a) ≡ bank_of a b
 unfolding each_register
 bank_on b a fit on = same_bank (register_value b [] a) (λ i. get_or (bank_of a b) i []) (value_on b a on) ∙ sym (fill_by_all (λ i. get_or (bank_of a b) i []) (bank_of a b) 24 [] (fit.registers a) (λ k lt. refl))
 
@@ -42,16 +42,16 @@ bank_off : (b : TpmParts) (a : Algorithm) → b.started ≡ false → each_regis
 unfolding each_register blank_bank
 bank_off b a off = same_bank (register_value b [] a) (λ i. zeros (digest_size a)) (value_off b a off)
 
-bank_of_b : (b : TpmParts) → IsFit b → (on : Bool) → b.started ≡ on → each_register (register_value b [] Sha256) ≡ b.pcr
+bank_of_b : (b : TpmParts) → IsValid b → (on : Bool) → b.started ≡ on → each_register (register_value b [] Sha256) ≡ b.pcr
 bank_of_b b fit true on = bank_on b Sha256 fit on
 bank_of_b b fit false off = bank_off b Sha256 off ∙ sym (fit.stopped off).pcr
 
-counter_of_b : (b : TpmParts) → IsFit b → (on : Bool) → b.started ≡ on → counter_of b [] ≡ b.counter
+counter_of_b : (b : TpmParts) → IsValid b → (on : Bool) → b.started ≡ on → counter_of b [] ≡ b.counter
 unfolding counter_of is_started starting_counter count_since
 counter_of_b b fit true on = rw on (omega (arith, fit.counter))
 counter_of_b b fit false off = rw off (sym (fit.stopped off).counter)
 
-pub values-nil : (b : TpmParts) → IsFit b → values b [] ≡ b
+pub values-nil : (b : TpmParts) → IsValid b → values b [] ≡ b
 unfolding values boots_of is_started draws_of saved_state
 values-nil b fit = same_parts _ _ refl (omega (arith, fit.boots)) (omega (arith, fit.draws)) refl (bank_of_b b fit b.started refl) (counter_of_b b fit b.started refl) refl
 
@@ -85,13 +85,13 @@ extended_width a registers i digests size lt h k below =
 kept_width : (a : Algorithm) (registers : List (List ℕ)) → HaveWidth a 24 registers → HaveWidth a 16 (take 16 registers)
 kept_width a registers h i lt = ap length (get_or-take 16 registers i [] lt) ∙ h i (omega arith)
 
-kept_bank : (a : Algorithm) (v : TpmParts) → IsFit v → HaveWidth a 16 (kept_bank_of a (kept v))
+kept_bank : (a : Algorithm) (v : TpmParts) → IsValid v → HaveWidth a 16 (kept_bank_of a (kept v))
 kept_bank Sha256 v fit = kept_width Sha256 v.pcr (fit.width Sha256)
 
-length-kept_bank : (a : Algorithm) (v : TpmParts) → IsFit v → length (kept_bank_of a (kept v)) ≡ 16
+length-kept_bank : (a : Algorithm) (v : TpmParts) → IsValid v → length (kept_bank_of a (kept v)) ≡ 16
 length-kept_bank Sha256 v fit = omega (arith, length-take 16 v.pcr, fit.registers Sha256)
 
-kept_is_kept : (v : TpmParts) → IsFit v → IsKept (kept v)
+kept_is_kept : (v : TpmParts) → IsValid v → IsKept (kept v)
 kept_is_kept v fit = record { counter = fit.counter; registers = λ a. length-kept_bank a v fit; width = λ a. kept_bank a v fit }
 
 counter_small : (state : Option SavedParts) → IfSome state IsKept → counter_at_start state < 2 ^ 32
@@ -104,7 +104,7 @@ true_off b p q = cc
 still_stopped : (v : TpmParts) (state : Option SavedParts) → IsStopped v → IsStopped (record v { saved = state })
 still_stopped v state h = record { draws = h.draws; counter = h.counter; pcr = h.pcr }
 
--- ---- each bank of the values that a deed leaves
+-- ---- each bank of the values that a state change leaves
 
 -- a bank in order
 abbrev IsBank : Algorithm → List (List ℕ) → Type 0
@@ -127,7 +127,7 @@ each P p Sha256 = p
 banks_of : (v : TpmParts) → IsBank Sha256 v.pcr → (a : Algorithm) → IsBank a (bank_of a v)
 banks_of v p = each (λ a. IsBank a (bank_of a v)) p
 
-pub fit-manufactured : (seed : List ℕ) → length seed ≡ 32 → IsFit (manufactured seed)
+pub fit-manufactured : (seed : List ℕ) → length seed ≡ 32 → IsValid (manufactured seed)
 fit-manufactured seed size =
     let banks = banks_of (manufactured seed) (blank_is_bank Sha256) in
     record {
@@ -142,7 +142,7 @@ fit-manufactured seed size =
       kept_agrees = λ on. tt;
     }
 
-pub fit-after : (v : TpmParts) (deed : Deed) → IsFit v → CanDo v deed → IsFit (after v deed)
+pub fit-after : (v : TpmParts) (change : StateChange) → IsValid v → CanDo v change → IsValid (after v change)
 fit-after v booted fit can =
     let banks = banks_of (after v booted) (blank_is_bank Sha256) in
     record {

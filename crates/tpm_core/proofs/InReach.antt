@@ -9,7 +9,7 @@ use Rattle.tpm_core.specs.declared.refusal.Refusal.{Refusal}
 use Rattle.tpm_core.specs.declared.refusal.Refusal.TheVariants as refusals
 use Rattle.tpm_core.specs.declared.command.Command.{Command}
 use Rattle.tpm_core.specs.declared.command.Command.TheVariants.{Startup, Shutdown, GetRandom, PcrRead, PcrExtend}
-use Rattle.tpm_core.specs.Reading.{◌>>=◌, number_at, head_at, admitted, mode_at, startup_at, shutdown_at, get_random_at, handle_at, authorisation_at, digest_at, selection_at, many_at, count_at, pcr_read_at, pcr_extend_at, parameters_at, lawful, is_closed, is_state, same, command_at}
+use Rattle.tpm_core.specs.Reading.{◌>>=◌, take_number, head_at, check_started_and_sessions, mode_at, startup_at, shutdown_at, get_random_at, handle_at, authorisation_at, digest_at, selection_at, many_at, count_at, pcr_read_at, pcr_extend_at, parameters_at, check_locality, is_closed, is_state, same, command_at}
 use Rattle.tpm_core.specs.Steps.{IsInReach}
 
 -- what holds of the value of a step holds of what comes of it
@@ -35,7 +35,7 @@ if_ok Q false x y h k = k refl
 
 handle_small : (bytes : List ℕ) → IfOk (handle_at bytes) (λ x. IfSome x.0 (λ i. i < 24))
 unfolding handle_at
-handle_small bytes = then_ok _ (number_at w32 refusals.HandleCut bytes) _ (λ n.
+handle_small bytes = then_ok _ (take_number w32 refusals.HandleCut bytes) _ (λ n.
     if_ok _ (ltb n.0 24) _ _ (λ lt. ltb-true n.0 24 lt) (λ ge. if_ok _ (eqb n.0 1073741831) _ _ (λ e. tt) (λ e. tt)))
 
 extend_small : (bytes : List ℕ) → IfOk (pcr_extend_at bytes) (λ x. IsInReach true x.0)
@@ -55,7 +55,7 @@ many_counted entry_at (suc n) bytes =
     bind_ok (λ x. length x.0 ≡ n) _ (many_at entry_at n first.1) _ (many_counted entry_at n first.1) (λ others h. ap suc h))
 
 count_small : (bytes : List ℕ) → IfOk (count_at bytes) (λ x. x.0 ≤ 16)
-count_small bytes = then_ok _ (number_at w32 refusals.ParameterCut bytes) _ (λ count. if_ok _ (ltb 16 count.0) _ _ (λ e. tt) (λ e. ltb-false 16 count.0 e))
+count_small bytes = then_ok _ (take_number w32 refusals.ParameterCut bytes) _ (λ count. if_ok _ (ltb 16 count.0) _ _ (λ e. tt) (λ e. ltb-false 16 count.0 e))
 
 read_reach : (on : Bool) (bytes : List ℕ) → IfOk (pcr_read_at bytes) (λ x. IsInReach on x.0)
 unfolding pcr_read_at
@@ -73,7 +73,7 @@ shutdown_reach on bytes = then_ok _ (mode_at bytes) _ (λ mode. tt)
 
 random_reach : (bytes : List ℕ) → IfOk (get_random_at bytes) (λ x. IsInReach true x.0)
 unfolding get_random_at
-random_reach bytes = then_ok _ (number_at w16 refusals.ParameterCut bytes) _ (λ n. refl)
+random_reach bytes = then_ok _ (take_number w16 refusals.ParameterCut bytes) _ (λ n. refl)
 
 on_from_apart : (on is_start : Bool) → same on is_start ≡ false → is_start ≡ false → on ≡ true
 on_from_apart true is_start p q = refl
@@ -84,7 +84,7 @@ on_from_apart false false p q = absurd cc
 abbrev IsOnFor : Bool → Head → Type 0
 IsOnFor on head = eqb head.code cc_startup ≡ false → on ≡ true
 
-admitted_on : (on : Bool) (head : Head) → IfOk (admitted on head) (IsOnFor on)
+admitted_on : (on : Bool) (head : Head) → IfOk (check_started_and_sessions on head) (IsOnFor on)
 admitted_on on head =
     if_ok _ (same on (eqb head.code cc_startup)) _ _ (λ e. tt) (λ apart.
     let known : IsOnFor on head = on_from_apart on (eqb head.code cc_startup) apart in
@@ -103,17 +103,17 @@ parameters_reach on has_saved head bytes known =
     if_ok _ (eqb head.code cc_pcr_read) _ _ (λ e. read_reach true bytes) (λ e.
     if_ok _ (eqb head.code cc_pcr_extend) _ _ (λ e. extend_small bytes) (λ e. tt))))))
 
-lawful_reach : (on : Bool) (command : Command) → IsInReach on command → IfOk (lawful command) (IsInReach on)
-lawful_reach on (PcrExtend extension) h = if_ok _ (is_closed extension.0) _ _ (λ e. tt) (λ e. h)
-lawful_reach on (Startup mode) h = h
-lawful_reach on (Shutdown mode) h = h
-lawful_reach on (GetRandom asked) h = h
-lawful_reach on (PcrRead selections) h = h
+locality_reach : (on : Bool) (command : Command) → IsInReach on command → IfOk (check_locality command) (IsInReach on)
+locality_reach on (PcrExtend extension) h = if_ok _ (is_closed extension.0) _ _ (λ e. tt) (λ e. h)
+locality_reach on (Startup mode) h = h
+locality_reach on (Shutdown mode) h = h
+locality_reach on (GetRandom asked) h = h
+locality_reach on (PcrRead selections) h = h
 
 pub command_reach : (on has_saved : Bool) (bytes : List ℕ) → IfOk (command_at on has_saved bytes) (IsInReach on)
 unfolding command_at
 command_reach on has_saved bytes =
     then_ok _ (head_at bytes) _ (λ seen.
-    bind_ok (IsOnFor on) _ (admitted on seen) _ (admitted_on on seen) (λ head known.
+    bind_ok (IsOnFor on) _ (check_started_and_sessions on seen) _ (admitted_on on seen) (λ head known.
     bind_ok (λ x. IsInReach on x.0) _ (parameters_at has_saved head.code (drop 10 bytes)) _ (parameters_reach on has_saved head (drop 10 bytes) known) (λ read h.
-    if_ok _ (eqb (length read.1) 0) _ _ (λ e. lawful_reach on read.0 h) (λ e. tt))))
+    if_ok _ (eqb (length read.1) 0) _ _ (λ e. locality_reach on read.0 h) (λ e. tt))))

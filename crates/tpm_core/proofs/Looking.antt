@@ -1,4 +1,4 @@
--- The values looked back at, after one more deed.
+-- The values looked back at, after one more state change.
 use Rattle.std.proofs.Common.{◌≡◌, ℕ, suc, ◌+◌, ◌%◌, ◌^◌, ◌<◌, Bool, true, false, cond, List, [], ◌∷◌, ◌++◌, length, get_or, set, Option, Some, None, refl, sym, ap, ◌∙◌, arith, inl, inr, eqb, eq-eqb, ne_eqb, ◌≢◌}
 use Rattle.std.proofs.lemmas.Bool.{cases_eq}
 use Rattle.std.proofs.Math.Nat.{mod-add-mod}
@@ -13,7 +13,7 @@ use Rattle.tpm_core.specs.declared.algorithm.Measurement.{Measurement}
 use Rattle.tpm_core.specs.Algorithms.{digests_by}
 use Rattle.tpm_core.specs.Banks.{blank_bank, each_register, hashed}
 use Rattle.tpm_core.proofs.Measured.{hashed-append}
-use Rattle.tpm_core.specs.Past.{Deed, booted, started, shut_down, drew, extended, is_boot, is_draw, since_boot, has_booted, count_of, boots_of, is_started, draws_of, saved_state, starting_value, starting_counter, digests_since, count_since, counter_at_start, register_value, counter_of, values}
+use Rattle.tpm_core.specs.Past.{StateChange, booted, started, shut_down, drew, extended, is_boot, is_draw, since_boot, has_booted, count_of, boots_of, is_started, draws_of, saved_state, starting_value, starting_counter, digests_since, count_since, counter_at_start, register_value, counter_of, values}
 use Rattle.tpm_core.specs.Steps.{IsKept, after}
 
 -- values that agree in each field
@@ -65,75 +65,75 @@ eqb_same : (k : ℕ) → eqb k k ≡ true
 eqb_same k = eq-eqb k k refl
 
 -- the step of a register's digests
-digests_here : (past : List Deed) (a : Algorithm) (i : ℕ) (measurements : List Measurement) → digests_since (extended i measurements ∷ past) a i ≡ digests_since past a i ++ digests_by a measurements
+digests_here : (past : List StateChange) (a : Algorithm) (i : ℕ) (measurements : List Measurement) → digests_since (extended i measurements ∷ past) a i ≡ digests_since past a i ++ digests_by a measurements
 unfolding digests_since
 digests_here past a i measurements = rw eqb_same refl
 
-digests_elsewhere : (past : List Deed) (a : Algorithm) (i k : ℕ) (measurements : List Measurement) → k ≢ i → digests_since (extended i measurements ∷ past) a k ≡ digests_since past a k
+digests_elsewhere : (past : List StateChange) (a : Algorithm) (i k : ℕ) (measurements : List Measurement) → k ≢ i → digests_since (extended i measurements ∷ past) a k ≡ digests_since past a k
 unfolding digests_since
 digests_elsewhere past a i k measurements ne = let no : eqb k i ≡ false = ne_eqb k i ne in rw no (append-nil (digests_since past a k))
 
 -- extends leave the start as it is
-value_when_on : (b : TpmParts) (past : List Deed) (a : Algorithm) (i : ℕ) → is_started b past ≡ true → register_value b past a i ≡ hashed a (starting_value b past a i) (digests_since past a i)
+value_when_on : (b : TpmParts) (past : List StateChange) (a : Algorithm) (i : ℕ) → is_started b past ≡ true → register_value b past a i ≡ hashed a (starting_value b past a i) (digests_since past a i)
 unfolding register_value
 value_when_on b past a i on = rw on refl
 
-counter_when_on : (b : TpmParts) (past : List Deed) → is_started b past ≡ true → counter_of b past ≡ (starting_counter b past + count_since past) % 2 ^ 32
+counter_when_on : (b : TpmParts) (past : List StateChange) → is_started b past ≡ true → counter_of b past ≡ (starting_counter b past + count_since past) % 2 ^ 32
 unfolding counter_of
 counter_when_on b past on = rw on refl
 
-started-extended : (b : TpmParts) (past : List Deed) (i : ℕ) (measurements : List Measurement) → is_started b (extended i measurements ∷ past) ≡ is_started b past
+started-extended : (b : TpmParts) (past : List StateChange) (i : ℕ) (measurements : List Measurement) → is_started b (extended i measurements ∷ past) ≡ is_started b past
 unfolding is_started
 started-extended b past i measurements = refl
 
-value_here : (b : TpmParts) (past : List Deed) (a : Algorithm) (i : ℕ) (measurements : List Measurement) → is_started b past ≡ true → register_value b (extended i measurements ∷ past) a i ≡ hashed a (register_value b past a i) (digests_by a measurements)
+value_here : (b : TpmParts) (past : List StateChange) (a : Algorithm) (i : ℕ) (measurements : List Measurement) → is_started b past ≡ true → register_value b (extended i measurements ∷ past) a i ≡ hashed a (register_value b past a i) (digests_by a measurements)
 unfolding starting_value
 value_here b past a i measurements on =
     rw (value_when_on b (extended i measurements ∷ past) a i (started-extended b past i measurements ∙ on), digests_here past a i measurements, value_when_on b past a i on)
     (hashed-append a (starting_value b past a i) (digests_since past a i) (digests_by a measurements))
 
-value_elsewhere : (b : TpmParts) (past : List Deed) (a : Algorithm) (i k : ℕ) (measurements : List Measurement) → is_started b past ≡ true → k ≢ i → register_value b (extended i measurements ∷ past) a k ≡ register_value b past a k
+value_elsewhere : (b : TpmParts) (past : List StateChange) (a : Algorithm) (i k : ℕ) (measurements : List Measurement) → is_started b past ≡ true → k ≢ i → register_value b (extended i measurements ∷ past) a k ≡ register_value b past a k
 unfolding starting_value
 value_elsewhere b past a i k measurements on ne =
     rw (value_when_on b (extended i measurements ∷ past) a k (started-extended b past i measurements ∙ on), digests_elsewhere past a i k measurements ne, value_when_on b past a k on) refl
 
 -- a bank is set at one place
-bank_here : (b : TpmParts) (past : List Deed) (a : Algorithm) (i : ℕ) (measurements : List Measurement) → is_started b past ≡ true → i < 24
+bank_here : (b : TpmParts) (past : List StateChange) (a : Algorithm) (i : ℕ) (measurements : List Measurement) → is_started b past ≡ true → i < 24
     → each_register (register_value b (extended i measurements ∷ past) a) ≡ set (each_register (register_value b past a)) i (hashed a (get_or (each_register (register_value b past a)) i []) (digests_by a measurements))
 bank_here b past a i measurements on lt =
     let here : register_value b (extended i measurements ∷ past) a i ≡ hashed a (get_or (each_register (register_value b past a)) i []) (digests_by a measurements)
     = rw (get_register (register_value b past a) i lt) (value_here b past a i measurements on) in
     set_register (register_value b past a) (register_value b (extended i measurements ∷ past) a) i _ lt here (λ k ne. value_elsewhere b past a i k measurements on ne)
 
-counter_here : (b : TpmParts) (past : List Deed) (i : ℕ) (measurements : List Measurement) → is_started b past ≡ true → counter_of b (extended i measurements ∷ past) ≡ (counter_of b past + length measurements) % 2 ^ 32
+counter_here : (b : TpmParts) (past : List StateChange) (i : ℕ) (measurements : List Measurement) → is_started b past ≡ true → counter_of b (extended i measurements ∷ past) ≡ (counter_of b past + length measurements) % 2 ^ 32
 unfolding starting_counter count_since
 counter_here b past i measurements on =
     rw (counter_when_on b (extended i measurements ∷ past) (started-extended b past i measurements ∙ on), counter_when_on b past on)
     (more (starting_counter b past) (count_since past) (length measurements) (2 ^ 32))
 
-draws_here : (b : TpmParts) (past : List Deed) → draws_of b (drew ∷ past) ≡ (draws_of b past + 1) % 2 ^ 64
+draws_here : (b : TpmParts) (past : List StateChange) → draws_of b (drew ∷ past) ≡ (draws_of b past + 1) % 2 ^ 64
 unfolding draws_of
 draws_here b past = ap (λ (x : ℕ). x % 2 ^ 64) (omega arith) ∙ sym (mod-add-mod (count_of is_draw (since_boot past) + cond (has_booted past) 0 b.draws) (2 ^ 64) 1)
 
--- ---- one more deed
+-- ---- one more state change
 
-pub values-booted : (b : TpmParts) (past : List Deed) → values b (booted ∷ past) ≡ after (values b past) booted
+pub values-booted : (b : TpmParts) (past : List StateChange) → values b (booted ∷ past) ≡ after (values b past) booted
 unfolding values boots_of draws_of is_started register_value counter_of saved_state each_register blank_bank
 values-booted b past = same_parts _ _ refl (one_more b.boots (count_of is_boot past) (2 ^ 64)) refl refl refl refl refl
 
-pub values-started : (b : TpmParts) (past : List Deed) (state : Option SavedParts) → IfSome state IsKept → values b (started state ∷ past) ≡ after (values b past) (started state)
+pub values-started : (b : TpmParts) (past : List StateChange) (state : Option SavedParts) → IfSome state IsKept → values b (started state ∷ past) ≡ after (values b past) (started state)
 unfolding values boots_of draws_of is_started register_value counter_of saved_state starting_value starting_counter digests_since count_since
 values-started b past state fits = same_parts _ _ refl refl refl refl refl (counter_fits state fits) refl
 
-pub values-shut_down : (b : TpmParts) (past : List Deed) (state : Option SavedParts) → values b (shut_down state ∷ past) ≡ after (values b past) (shut_down state)
+pub values-shut_down : (b : TpmParts) (past : List StateChange) (state : Option SavedParts) → values b (shut_down state ∷ past) ≡ after (values b past) (shut_down state)
 unfolding values boots_of draws_of is_started register_value counter_of saved_state starting_value starting_counter digests_since count_since
 values-shut_down b past state = refl
 
-pub values-drew : (b : TpmParts) (past : List Deed) → values b (drew ∷ past) ≡ after (values b past) drew
+pub values-drew : (b : TpmParts) (past : List StateChange) → values b (drew ∷ past) ≡ after (values b past) drew
 unfolding values boots_of is_started register_value counter_of saved_state starting_value starting_counter digests_since count_since
 values-drew b past = same_parts _ _ refl refl (draws_here b past) refl refl refl refl
 
-pub values-extended : (b : TpmParts) (past : List Deed) (i : ℕ) (measurements : List Measurement) → (values b past).started ≡ true → i < 24 → values b (extended i measurements ∷ past) ≡ after (values b past) (extended i measurements)
+pub values-extended : (b : TpmParts) (past : List StateChange) (i : ℕ) (measurements : List Measurement) → (values b past).started ≡ true → i < 24 → values b (extended i measurements ∷ past) ≡ after (values b past) (extended i measurements)
 unfolding values boots_of draws_of is_started saved_state
 values-extended b past i measurements on lt =
     same_parts _ _ refl refl refl refl (bank_here b past Sha256 i measurements on lt) (counter_here b past i measurements on) refl

@@ -5,14 +5,14 @@ use Rattle.std.specs.Int.{w16, w32}
 use Rattle.std.proofs.lemmas.List.{length-take, length-append, get_or_past}
 use Rattle.std.proofs.lemmas.Nat.{from_be_bytes-to_be_bytes_4}
 use Rattle.tpm_frame.specs.Numbers.{st_no_sessions, st_sessions}
-use Rattle.tpm_frame.specs.Frame.{number_at, short, is_response_tag}
+use Rattle.tpm_frame.specs.Frame.{big_endian_at, short, is_response_tag}
 use Rattle.tpm_core.specs.declared.parts.TpmParts.{TpmParts}
 use Rattle.tpm_core.specs.declared.refusal.Refusal.{Refusal}
 use Rattle.tpm_core.specs.declared.refusal.Refusal.TheVariants.{BadTag, CommandSize, CommandCode, Initialize, AuthMissing, AuthContext, HandleCut, HandleValue, AuthSize, SessionValue, BadAuth, ParameterCut, ParameterValue, ParameterSize, ParameterHash, Locality}
 use Rattle.tpm_core.specs.declared.command.Command.{Command}
 use Rattle.tpm_core.specs.declared.command.Command.TheVariants.{Startup, Shutdown, GetRandom, PcrRead, PcrExtend}
 use Rattle.tpm_core.specs.Refusals.{code_of}
-use Rattle.tpm_core.specs.Answers.{framed, password_session, entry_read, digest_read, random_bytes, block_of, registers_read, response, reply_to, Entry, read_by, values_after, answer}
+use Rattle.tpm_core.specs.Answers.{with_header, password_session, entry_read, digest_read, random_bytes, block_of, registers_read, response, reply_to, Entry, read_by, values_after, answer}
 use Rattle.std.proofs.Common.{is_some}
 use Rattle.tpm_core.proofs.InReach.{command_reach}
 use Rattle.tpm_core.proofs.Law.{fit-past}
@@ -27,17 +27,17 @@ use Rattle.tpm_core.specs.Algorithms.{digest_size}
 use Rattle.tpm_core.specs.Banks.{bank_of}
 use Rattle.tpm_core.specs.Selected.{selected, chosen_of, bits_of, registers_of, all_registers}
 use Rattle.tpm_core.proofs.Chosen.{length-registers_of}
-use Rattle.tpm_core.specs.Steps.{IsFit, IsInReach}
+use Rattle.tpm_core.specs.Steps.{IsValid, IsInReach}
 use Rattle.tpm_core.specs.Responses.{IsResponse, cancelled}
 
-framed_size : (tag : ℕ) (body : List ℕ) → length body ≤ 3958 → number_at w32 2 (framed tag body) ≡ length (framed tag body)
+framed_size : (tag : ℕ) (body : List ℕ) → length body ≤ 3958 → big_endian_at w32 2 (with_header tag body) ≡ length (with_header tag body)
 framed_size tag body lt =
-    let size : 10 + length body ≡ length (framed tag body) = omega arith in
+    let size : 10 + length body ≡ length (with_header tag body) = omega arith in
     let bounded : 10 + length body < 2 ^ 32 = omega arith in
     let back = from_be_bytes-to_be_bytes_4 (10 + length body) bounded in
     back ∙ size
 
-framed_is_response : (tag : ℕ) (body : List ℕ) → IsTrue (is_response_tag (number_at w16 0 (framed tag body))) → length body ≤ 3958 → IsResponse (framed tag body)
+framed_is_response : (tag : ℕ) (body : List ℕ) → IsTrue (is_response_tag (big_endian_at w16 0 (with_header tag body))) → length body ≤ 3958 → IsResponse (with_header tag body)
 framed_is_response tag body is_tag lt = record { head = omega arith; room = omega arith; tag = is_tag; size = framed_size tag body lt }
 
 take_small : (n : ℕ) (bytes : List ℕ) → n ≤ 32 → length (take n bytes) + 2 ≤ 3958
@@ -80,28 +80,28 @@ size_small : (a : Algorithm) → digest_size a ≤ 64
 size_small Sha256 = omega arith
 
 -- a register has as many bytes as a digest, or none past the last
-register_small : (v : TpmParts) → IsFit v → (a : Algorithm) (i : ℕ) → length (get_or (bank_of a v) i []) ≤ 64
+register_small : (v : TpmParts) → IsValid v → (a : Algorithm) (i : ℕ) → length (get_or (bank_of a v) i []) ≤ 64
 register_small v fit a i =
     elim (cases_lt i 24) [
       | inl lt ↦ omega (arith, fit.width a i lt, size_small a)
       | inr le ↦ omega (arith, ap length (get_or_past (bank_of a v) i [] (omega (arith, fit.registers a, le))))
     ]
 
-length-digests : (v : TpmParts) → IsFit v → (registers : List Register) → length (flat_map (digest_read v) registers) ≤ 66 * length registers
+length-digests : (v : TpmParts) → IsValid v → (registers : List Register) → length (flat_map (digest_read v) registers) ≤ 66 * length registers
 length-digests v fit [] = omega arith
 length-digests v fit (r ∷ registers) =
     omega (arith, ap length (flat_map-cons (digest_read v) r registers), length-append (digest_read v r) (flat_map (digest_read v) registers), register_small v fit r.algorithm r.index, length-digests v fit registers)
 
-read_small : (v : TpmParts) (selections : List Selection) → IsFit v → length selections ≤ 16 → length (registers_read v selections) ≤ 3958
+read_small : (v : TpmParts) (selections : List Selection) → IsValid v → length selections ≤ 16 → length (registers_read v selections) ≤ 3958
 unfolding registers_read
-read_small v selections fit few =
+read_small v selections fit within_limit =
     let chosen = chosen_of 8 selections in
     let entries : length (flat_map entry_read chosen) ≡ 6 * length selections = length-entries chosen ∙ ap (λ (n : ℕ). 6 * n) (length-chosen_of 8 selections) in
     let all : length (all_registers chosen) ≤ 8 = length-all_registers 8 selections in
     let values : length (flat_map (digest_read v) (all_registers chosen)) ≤ 66 * length (all_registers chosen) = length-digests v fit (all_registers chosen) in
     simp length-append (omega arith)
 
-response_is : (v : TpmParts) (command : Command) → IsFit v → IsInReach v.started command → IsResponse (response v command)
+response_is : (v : TpmParts) (command : Command) → IsValid v → IsInReach v.started command → IsResponse (response v command)
 unfolding response
 response_is v (Startup mode) fit h = framed_is_response st_no_sessions [] refl (omega arith)
 response_is v (Shutdown mode) fit h = framed_is_response st_no_sessions [] refl (omega arith)
@@ -109,7 +109,7 @@ response_is v (GetRandom asked) fit h = framed_is_response st_no_sessions (rando
 response_is v (PcrRead selections) fit h = framed_is_response st_no_sessions (registers_read v selections) refl (read_small v selections fit h)
 response_is v (PcrExtend extension) fit h = framed_is_response st_sessions password_session refl (omega arith)
 
-response_code : (v : TpmParts) (command : Command) → number_at w32 6 (response v command) ≡ 0
+response_code : (v : TpmParts) (command : Command) → big_endian_at w32 6 (response v command) ≡ 0
 unfolding response
 response_code v (Startup mode) = refl
 response_code v (Shutdown mode) = refl
@@ -119,7 +119,7 @@ response_code v (PcrExtend extension) = refl
 
 -- a refusal's response has a code of its own
 abbrev IsShort : Refusal → Type 0
-IsShort refusal = IsResponse (short (code_of refusal)) × (number_at w32 6 (short (code_of refusal)) ≡ code_of refusal)
+IsShort refusal = IsResponse (short (code_of refusal)) × (big_endian_at w32 6 (short (code_of refusal)) ≡ code_of refusal)
 
 short_is : (refusal : Refusal) → IsShort refusal
 short_is BadTag = (record { head = lit≤ tt; room = lit≤ tt; tag = refl; size = refl }, refl)
@@ -158,24 +158,24 @@ refusal_codes ParameterSize = (λ e. omega arith, λ e. omega arith)
 refusal_codes ParameterHash = (λ e. omega arith, λ e. omega arith)
 refusal_codes Locality = (λ e. omega arith, λ e. omega arith)
 
-pub reply_is_response : (v : TpmParts) (read : Result Command Refusal) → IsFit v → IfOk read (IsInReach v.started) → IsResponse (reply_to v read)
+pub reply_is_response : (v : TpmParts) (read : Result Command Refusal) → IsValid v → IfOk read (IsInReach v.started) → IsResponse (reply_to v read)
 reply_is_response v (Ok command) fit h = response_is v command fit h
 reply_is_response v (Err refusal) fit h = (short_is refusal).0
 
-reply_code : (v : TpmParts) (read : Result Command Refusal) → number_at w32 6 (reply_to v read) ≢ 0x909
+reply_code : (v : TpmParts) (read : Result Command Refusal) → big_endian_at w32 6 (reply_to v read) ≢ 0x909
 reply_code v (Ok command) e = let zero_is = sym (response_code v command) ∙ e in absurd cc
 reply_code v (Err refusal) e = (refusal_codes refusal).1 (sym (short_is refusal).1 ∙ e)
 
 pub reply_not_cancelled : (v : TpmParts) (read : Result Command Refusal) → reply_to v read ≢ cancelled
-reply_not_cancelled v read e = reply_code v read (ap (number_at w32 6) e)
+reply_not_cancelled v read e = reply_code v read (ap (big_endian_at w32 6) e)
 
-pub succeeded_is_read : (v : TpmParts) (read : Result Command Refusal) → (number_at w32 6 (reply_to v read) ≡ 0) ↔ IsOk read
+pub succeeded_is_read : (v : TpmParts) (read : Result Command Refusal) → (big_endian_at w32 6 (reply_to v read) ≡ 0) ↔ IsOk read
 succeeded_is_read v (Ok command) = (λ e. refl, λ ok. response_code v command)
 succeeded_is_read v (Err refusal) = (λ e. absurd ((refusal_codes refusal).0 (sym (short_is refusal).1 ∙ e)), λ ok. absurd cc)
 
 -- ---- over any past
 
-pub answer_is_response : (b : TpmParts) (past : List Entry) (bytes : List ℕ) → IsFit b → IsResponse (answer b past bytes)
+pub answer_is_response : (b : TpmParts) (past : List Entry) (bytes : List ℕ) → IsValid b → IsResponse (answer b past bytes)
 unfolding answer
 answer_is_response b past bytes fit =
     let v = values_after b past in

@@ -6,8 +6,8 @@ use Rattle.tpm_core.specs.declared.parts.TpmParts.{TpmParts}
 use Rattle.tpm_core.specs.declared.refusal.Refusal.{Refusal}
 use Rattle.tpm_core.specs.declared.command.Command.{Command}
 use Rattle.tpm_core.specs.Reading.{command_at}
-use Rattle.tpm_core.specs.Answers.{Executed, deed_if_read, read_by, reply_to, values_after, answer}
-use Rattle.tpm_core.specs.Steps.{IsFit, after_deed, IsInReach}
+use Rattle.tpm_core.specs.Answers.{Executed, change_if_read, read_by, reply_to, values_after, answer}
+use Rattle.tpm_core.specs.Steps.{IsValid, after_change, IsInReach}
 use Rattle.tpm_core.proofs.InReach.{command_reach}
 use Rattle.tpm_core.proofs.Law.{fit-past, no_past, values_after-command}
 
@@ -18,12 +18,12 @@ read_is v bytes has_saved read saved e = e ∙ ap (λ (b : Bool). command_at v.s
 pub in_reach : (on has_saved : Bool) (bytes : List ℕ) (command : Command) → Ok command ≡ command_at on has_saved bytes → IsInReach on command
 in_reach on has_saved bytes command e = let P : Result Command Refusal → Type 0 = λ r. IfOk r (IsInReach on) in subst P (sym e) (command_reach on has_saved bytes)
 
-pub executed_is : (v w : TpmParts) (bytes : List ℕ) (read : Result Command Refusal) → IsFit v → read ≡ read_by v bytes → w ≡ after_deed v (deed_if_read v read) → w ≡ values_after v (Executed bytes ∷ [])
-executed_is v w bytes read fit e h = h ∙ ap (λ (r : Result Command Refusal). after_deed v (deed_if_read v r)) e ∙ sym (values_after-command v bytes fit)
+pub executed_is : (v w : TpmParts) (bytes : List ℕ) (read : Result Command Refusal) → IsValid v → read ≡ read_by v bytes → w ≡ after_change v (change_if_read v read) → w ≡ values_after v (Executed bytes ∷ [])
+executed_is v w bytes read fit e h = h ∙ ap (λ (r : Result Command Refusal). after_change v (change_if_read v r)) e ∙ sym (values_after-command v bytes fit)
 
-pub stays_fit : (v w : TpmParts) (bytes : List ℕ) → IsFit v → w ≡ values_after v (Executed bytes ∷ []) → IsFit w
-stays_fit v w bytes fit e = subst IsFit (sym e) (fit-past v (Executed bytes ∷ []) fit)
+pub stays_fit : (v w : TpmParts) (bytes : List ℕ) → IsValid v → w ≡ values_after v (Executed bytes ∷ []) → IsValid w
+stays_fit v w bytes fit e = subst IsValid (sym e) (fit-past v (Executed bytes ∷ []) fit)
 
-pub answer_is : (v : TpmParts) (bytes : List ℕ) (read : Result Command Refusal) → IsFit v → read ≡ read_by v bytes → reply_to v read ≡ answer v [] bytes
+pub answer_is : (v : TpmParts) (bytes : List ℕ) (read : Result Command Refusal) → IsValid v → read ≡ read_by v bytes → reply_to v read ≡ answer v [] bytes
 unfolding answer
 answer_is v bytes read fit e = ap (reply_to v) e ∙ ap (λ (w : TpmParts). reply_to w (read_by w bytes)) (sym (no_past v fit))

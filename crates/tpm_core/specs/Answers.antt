@@ -22,7 +22,7 @@ use Rattle.tpm_core.specs.declared.command.Command.TheVariants.{Startup, Shutdow
 use Rattle.tpm_core.specs.Banks.{blank_bank, bank_of}
 use Rattle.tpm_core.specs.Refusals.{code_of}
 use Rattle.tpm_core.specs.Reading.{command_at}
-use Rattle.tpm_core.specs.Past.{Deed, booted, started, shut_down, drew, extended, values}
+use Rattle.tpm_core.specs.Past.{StateChange, booted, started, shut_down, drew, extended, values}
 
 -- the values when power has come on: only the seed and the saved state stay
 abbrev pub powered_on : TpmParts → TpmParts
@@ -33,9 +33,9 @@ abbrev pub kept : TpmParts → SavedParts
 kept v = record { counter = v.counter; pcr = take 16 v.pcr }
 
 -- an extend by no digest does nothing
-abbrev pub extend_deed : ℕ → List Measurement → Option Deed
-extend_deed i [] = None
-extend_deed i (measurement ∷ others) = Some (extended i (measurement ∷ others))
+abbrev pub extend_change : ℕ → List Measurement → Option StateChange
+extend_change i [] = None
+extend_change i (measurement ∷ others) = Some (extended i (measurement ∷ others))
 
 -- what a start brings back
 abbrev pub state_at_start : Mode → Option SavedParts → Option SavedParts
@@ -43,22 +43,22 @@ state_at_start Clear saved = None
 state_at_start State saved = saved
 
 -- what a command does to a TPM with the values v
-abbrev pub deed_of : TpmParts → Command → Option Deed
-deed_of v (Startup mode) = Some (started (state_at_start mode v.saved))
-deed_of v (Shutdown Clear) = Some (shut_down None)
-deed_of v (Shutdown State) = Some (shut_down (Some (kept v)))
-deed_of v (GetRandom asked) = if asked == 0 then None else Some drew
-deed_of v (PcrRead selections) = None
-deed_of v (PcrExtend (None, measurements)) = None
-deed_of v (PcrExtend (Some i, measurements)) = extend_deed i measurements
+abbrev pub change_of : TpmParts → Command → Option StateChange
+change_of v (Startup mode) = Some (started (state_at_start mode v.saved))
+change_of v (Shutdown Clear) = Some (shut_down None)
+change_of v (Shutdown State) = Some (shut_down (Some (kept v)))
+change_of v (GetRandom asked) = if asked == 0 then None else Some drew
+change_of v (PcrRead selections) = None
+change_of v (PcrExtend (None, measurements)) = None
+change_of v (PcrExtend (Some i, measurements)) = extend_change i measurements
 
 -- a block of random bytes
 abbrev pub block_of : TpmParts → List ℕ
 block_of v = sha256 (codes "CRBR" ++ v.seed ++ to_be_bytes w64 v.boots ++ to_be_bytes w64 v.draws)
 
 -- the response to a command that succeeded
-abbrev pub framed : ℕ → List ℕ → List ℕ
-framed tag body = to_be_bytes w16 tag ++ to_be_bytes w32 (header_size + length body) ++ to_be_bytes w32 rc_success ++ body
+abbrev pub with_header : ℕ → List ℕ → List ℕ
+with_header tag body = to_be_bytes w16 tag ++ to_be_bytes w32 (header_size + length body) ++ to_be_bytes w32 rc_success ++ body
 
 -- as many bytes of the block as were asked for, with their number before them
 abbrev pub random_bytes : TpmParts → ℕ → List ℕ
@@ -86,11 +86,11 @@ password_session = 0 ∷ 0 ∷ 0 ∷ 0 ∷ 0 ∷ 0 ∷ 1 ∷ 0 ∷ 0 ∷ []
 
 -- the response to a command that did what it does, to a TPM with the values v
 unfoldable pub response : TpmParts → Command → List ℕ
-response v (Startup mode) = framed st_no_sessions []
-response v (Shutdown mode) = framed st_no_sessions []
-response v (GetRandom asked) = framed st_no_sessions (random_bytes v asked)
-response v (PcrRead selections) = framed st_no_sessions (registers_read v selections)
-response v (PcrExtend extension) = framed st_sessions password_session
+response v (Startup mode) = with_header st_no_sessions []
+response v (Shutdown mode) = with_header st_no_sessions []
+response v (GetRandom asked) = with_header st_no_sessions (random_bytes v asked)
+response v (PcrRead selections) = with_header st_no_sessions (registers_read v selections)
+response v (PcrExtend extension) = with_header st_sessions password_session
 
 -- the command that the bytes are to a TPM with the values v
 abbrev pub read_by : TpmParts → List ℕ → Result Command Refusal
@@ -102,29 +102,29 @@ reply_to v (Ok command) = response v command
 reply_to v (Err refusal) = short (code_of refusal)
 
 -- what is done by a command that was read
-abbrev pub deed_if_read : TpmParts → Result Command Refusal → Option Deed
-deed_if_read v (Ok command) = deed_of v command
-deed_if_read v (Err refusal) = None
+abbrev pub change_if_read : TpmParts → Result Command Refusal → Option StateChange
+change_if_read v (Ok command) = change_of v command
+change_if_read v (Err refusal) = None
 
 -- what a TPM went through: power came on, or it executed a command. A past has its latest entry first.
 pub data Entry : Type 0 where
   PowerOn : Entry
   Executed : (command : List ℕ) → Entry
 
--- a deed more, if there is one
-abbrev pub with_deed : Option Deed → List Deed → List Deed
-with_deed None past = past
-with_deed (Some deed) past = deed ∷ past
+-- a state change more, if there is one
+abbrev pub with_change : Option StateChange → List StateChange → List StateChange
+with_change None past = past
+with_change (Some change) past = change ∷ past
 
 -- what was done in a past: a refused command does nothing
-unfoldable pub deeds : TpmParts → List Entry → List Deed
-deeds b [] = []
-deeds b (PowerOn ∷ past) = booted ∷ deeds b past
-deeds b (Executed command ∷ past) = with_deed (deed_if_read (values b (deeds b past)) (read_by (values b (deeds b past)) command)) (deeds b past)
+unfoldable pub state_changes : TpmParts → List Entry → List StateChange
+state_changes b [] = []
+state_changes b (PowerOn ∷ past) = booted ∷ state_changes b past
+state_changes b (Executed command ∷ past) = with_change (change_if_read (values b (state_changes b past)) (read_by (values b (state_changes b past)) command)) (state_changes b past)
 
 -- the values after a past, of a TPM that had the values of b before it
 unfoldable pub values_after : TpmParts → List Entry → TpmParts
-values_after b past = values b (deeds b past)
+values_after b past = values b (state_changes b past)
 
 -- the response to a command after a past
 unfoldable pub answer : TpmParts → List Entry → List ℕ → List ℕ

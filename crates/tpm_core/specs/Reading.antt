@@ -29,8 +29,8 @@ Reads (Ok x) old new reading = reading old ≡ Ok (x, new)
 Reads (Err e) old new reading = reading old ≡ Err e
 
 -- a number and the bytes after it
-abbrev pub number_at : Width → Refusal → List ℕ → Result (ℕ × List ℕ) Refusal
-number_at w cut bytes = if nat_lt (length bytes) (byte_len w) then Err cut else Ok (from_be_bytes w (take (byte_len w) bytes), drop (byte_len w) bytes)
+abbrev pub take_number : Width → Refusal → List ℕ → Result (ℕ × List ℕ) Refusal
+take_number w cut bytes = if nat_lt (length bytes) (byte_len w) then Err cut else Ok (from_be_bytes w (take (byte_len w) bytes), drop (byte_len w) bytes)
 
 -- the refusal that stands for a response code of the header
 abbrev pub head_refused : Result Head ℕ → Result Head Refusal
@@ -50,8 +50,8 @@ same true b = b
 same false b = not b
 
 -- the next two: a start comes first and once, and an extend alone has sessions
-abbrev pub admitted : Bool → Head → Result Head Refusal
-admitted started head =
+abbrev pub check_started_and_sessions : Bool → Head → Result Head Refusal
+check_started_and_sessions started head =
     if same started (head.code == cc_startup) then Err refusals.Initialize
     else if head.code == cc_pcr_extend then (if head.sessions then Ok head else Err refusals.AuthMissing)
     else if head.sessions then Err refusals.AuthContext
@@ -60,7 +60,7 @@ admitted started head =
 -- how a start or a shutdown is meant
 unfoldable pub mode_at : List ℕ → Result (Mode × List ℕ) Refusal
 mode_at bytes = do
-  n ← number_at w16 refusals.ParameterCut bytes
+  n ← take_number w16 refusals.ParameterCut bytes
   if n.0 == su_clear then Ok (Clear, n.1) else if n.0 == su_state then Ok (State, n.1) else Err refusals.ParameterValue
 
 -- values are to be kept or brought back
@@ -83,24 +83,24 @@ shutdown_at bytes = do
 -- how many random bytes are asked for
 unfoldable pub get_random_at : List ℕ → Result (Command × List ℕ) Refusal
 get_random_at bytes = do
-  asked ← number_at w16 refusals.ParameterCut bytes
+  asked ← take_number w16 refusals.ParameterCut bytes
   Ok (GetRandom asked.0, asked.1)
 
 -- the register that a handle names, if it names one
 unfoldable pub handle_at : List ℕ → Result (Option ℕ × List ℕ) Refusal
 handle_at bytes = do
-  n ← number_at w32 refusals.HandleCut bytes
+  n ← take_number w32 refusals.HandleCut bytes
   if nat_lt n.0 24 then Ok (Some n.0, n.1) else if n.0 == rh_null then Ok (None, n.1) else Err refusals.HandleValue
 
 -- an authorisation by the empty password; its attributes may be any
 unfoldable pub authorisation_at : List ℕ → Result (Unit {0} × List ℕ) Refusal
 authorisation_at bytes = do
-  size ← number_at w32 refusals.AuthSize bytes
+  size ← take_number w32 refusals.AuthSize bytes
   area ← if nat_lt size.0 9 || nat_lt (length size.1) size.0 then Err refusals.AuthSize else Ok size.1
-  session ← number_at w32 refusals.AuthSize area
-  nonce ← if session.0 == rs_pw then number_at w16 refusals.AuthSize session.1 else Err refusals.SessionValue
-  attributes ← if nonce.0 == 0 then number_at w8 refusals.AuthSize nonce.1 else Err refusals.AuthSize
-  password ← number_at w16 refusals.AuthSize attributes.1
+  session ← take_number w32 refusals.AuthSize area
+  nonce ← if session.0 == rs_pw then take_number w16 refusals.AuthSize session.1 else Err refusals.SessionValue
+  attributes ← if nonce.0 == 0 then take_number w8 refusals.AuthSize nonce.1 else Err refusals.AuthSize
+  password ← take_number w16 refusals.AuthSize attributes.1
   if not (9 + password.0 == size.0) then Err refusals.AuthSize
       else if not (password.0 == 0) then Err refusals.BadAuth
       else Ok (tt, drop size.0 area)
@@ -113,7 +113,7 @@ known_algorithm (Some a) bytes = Ok (a, bytes)
 -- an algorithm that the TPM has a bank of
 unfoldable pub algorithm_at : List ℕ → Result (Algorithm × List ℕ) Refusal
 algorithm_at bytes = do
-  n ← number_at w16 refusals.ParameterCut bytes
+  n ← take_number w16 refusals.ParameterCut bytes
   known_algorithm (algorithm_of n.0) n.1
 
 -- so many bytes of a parameter
@@ -131,7 +131,7 @@ digest_at bytes = do
 unfoldable pub selection_at : List ℕ → Result (Selection × List ℕ) Refusal
 selection_at bytes = do
   algorithm ← algorithm_at bytes
-  size ← number_at w8 refusals.ParameterCut algorithm.1
+  size ← take_number w8 refusals.ParameterCut algorithm.1
   bits ← if size.0 == 3 then array_at 3 size.1 else Err refusals.ParameterValue
   Ok (record { algorithm = algorithm.0; bits = bits.0 }, bits.1)
 
@@ -146,7 +146,7 @@ many_at entry_at (suc n) bytes = do
 -- a list has at most sixteen entries
 abbrev pub count_at : List ℕ → Result (ℕ × List ℕ) Refusal
 count_at bytes = do
-  count ← number_at w32 refusals.ParameterCut bytes
+  count ← take_number w32 refusals.ParameterCut bytes
   if nat_lt 16 count.0 then Err refusals.ParameterSize else Ok count
 
 -- which registers are to be read
@@ -181,17 +181,17 @@ is_closed None = false
 is_closed (Some register) = is_dynamic register
 
 -- the last check: no command extends a register that is closed to this locality
-abbrev pub lawful : Command → Result Command Refusal
-lawful (PcrExtend extension) = if is_closed extension.0 then Err refusals.Locality else Ok (PcrExtend extension)
-lawful (Startup mode) = Ok (Startup mode)
-lawful (Shutdown mode) = Ok (Shutdown mode)
-lawful (GetRandom asked) = Ok (GetRandom asked)
-lawful (PcrRead selections) = Ok (PcrRead selections)
+abbrev pub check_locality : Command → Result Command Refusal
+check_locality (PcrExtend extension) = if is_closed extension.0 then Err refusals.Locality else Ok (PcrExtend extension)
+check_locality (Startup mode) = Ok (Startup mode)
+check_locality (Shutdown mode) = Ok (Shutdown mode)
+check_locality (GetRandom asked) = Ok (GetRandom asked)
+check_locality (PcrRead selections) = Ok (PcrRead selections)
 
 -- the command that the bytes are, or the first check that fails
 unfoldable pub command_at : Bool → Bool → List ℕ → Result Command Refusal
 command_at started has_saved bytes = do
   seen ← head_at bytes
-  head ← admitted started seen
+  head ← check_started_and_sessions started seen
   read ← parameters_at has_saved head.code (drop header_size bytes)
-  if length read.1 == 0 then lawful read.0 else Err refusals.ParameterSize
+  if length read.1 == 0 then check_locality read.0 else Err refusals.ParameterSize

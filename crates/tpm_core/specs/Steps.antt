@@ -1,4 +1,4 @@
--- The TPM as a machine: which values make sense, and what each deed does to them.
+-- The TPM as a machine: which values make sense, and what each state change does to them.
 use Rattle.std.specs.Prelude.{◌≡◌, ℕ, ◌+◌, ◌%◌, ◌^◌, ◌<◌, ◌≤◌, Bool, true, false, List, [], length, Option, Some, None, IfSome, slice_index_or, slice_set}
 use Rattle.tpm_core.specs.declared.algorithm.Algorithm.{Algorithm}
 use Rattle.tpm_core.specs.declared.algorithm.Algorithm.TheVariants.{Sha256}
@@ -6,7 +6,7 @@ use Rattle.tpm_core.specs.declared.parts.SavedParts.{SavedParts}
 use Rattle.tpm_core.specs.declared.parts.TpmParts.{TpmParts}
 use Rattle.tpm_core.specs.Algorithms.{digest_size, digests_by}
 use Rattle.tpm_core.specs.Banks.{blank_bank, each_register, hashed, bank_of, kept_bank_of}
-use Rattle.tpm_core.specs.Past.{Deed, booted, started, shut_down, drew, extended, value_at_start, counter_at_start}
+use Rattle.tpm_core.specs.Past.{StateChange, booted, started, shut_down, drew, extended, value_at_start, counter_at_start}
 use Rattle.tpm_core.specs.declared.command.Command.{Command}
 use Rattle.tpm_core.specs.declared.command.Command.TheVariants.{Startup, Shutdown, GetRandom, PcrRead, PcrExtend}
 use Rattle.tpm_core.specs.Answers.{kept, powered_on}
@@ -33,7 +33,7 @@ pub record IsConsistent (v : TpmParts) : Type 0 where
   pub kept_agrees : v.started ≡ true → IfSome v.saved (λ state. state ≡ kept v)
 
 -- values that a TPM can have
-pub record IsFit (v : TpmParts) : Type 0 where
+pub record IsValid (v : TpmParts) : Type 0 where
   pub seed : length v.seed ≡ 32
   pub boots : v.boots < 2 ^ 64
   pub draws : v.draws < 2 ^ 64
@@ -44,21 +44,21 @@ pub record IsFit (v : TpmParts) : Type 0 where
   pub kept_fits : IfSome v.saved IsKept
   pub kept_agrees : v.started ≡ true → IfSome v.saved (λ state. state ≡ kept v)
 
--- the values after one deed
-abbrev pub after : TpmParts → Deed → TpmParts
+-- the values after one state change
+abbrev pub after : TpmParts → StateChange → TpmParts
 after v booted = powered_on v
 after v (started state) = record v { started = true; pcr = each_register (value_at_start Sha256 state); counter = counter_at_start state; saved = None }
 after v (shut_down state) = record v { saved = state }
 after v drew = record v { draws = (v.draws + 1) % 2 ^ 64 }
 after v (extended i measurements) = record v { pcr = slice_set v.pcr i (hashed Sha256 (slice_index_or v.pcr i []) (digests_by Sha256 measurements)); counter = (v.counter + length measurements) % 2 ^ 32; saved = None }
 
--- the values after a deed, if there is one
-abbrev pub after_deed : TpmParts → Option Deed → TpmParts
-after_deed v None = v
-after_deed v (Some deed) = after v deed
+-- the values after a state change, if there is one
+abbrev pub after_change : TpmParts → Option StateChange → TpmParts
+after_change v None = v
+after_change v (Some change) = after v change
 
 -- only a TPM that is started has its registers extended
-abbrev pub CanDo : TpmParts → Deed → Type 0
+abbrev pub CanDo : TpmParts → StateChange → Type 0
 CanDo v booted = Unit {0}
 CanDo v (started state) = IfSome state IsKept
 CanDo v (shut_down None) = Unit {0}
@@ -66,10 +66,10 @@ CanDo v (shut_down (Some state)) = state ≡ kept v
 CanDo v drew = v.started ≡ true
 CanDo v (extended i measurements) = (v.started ≡ true) × (i < 24)
 
--- a deed that can be done, if there is one
-abbrev pub CanDoIfAny : TpmParts → Option Deed → Type 0
+-- a state change that can be done, if there is one
+abbrev pub CanDoIfAny : TpmParts → Option StateChange → Type 0
 CanDoIfAny v None = Unit {0}
-CanDoIfAny v (Some deed) = CanDo v deed
+CanDoIfAny v (Some change) = CanDo v change
 
 -- what a command that was read may ask for
 abbrev pub IsInReach : Bool → Command → Type 0

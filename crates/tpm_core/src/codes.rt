@@ -1,5 +1,5 @@
 //! The numbers of the TPM 2.0 Library that commands and responses of this crate use, beside those of headers.
-//! Each has its name there, but for the front that tells its kind.
+//! Each has its name there, but for the start that gives its kind.
 
 /// TPM_ALG_SHA256.
 pub const ALG_SHA256: u16 = 0x000B;

@@ -3,7 +3,7 @@
 ghost use Rattle.std.specs.Prelude.{◌≡◌, ◌<◌, ◌≤◌, length, IfSome};
 
 use crate::algorithm::{Algorithm, Measurement};
-use crate::few::Few;
+use crate::array_vec::ArrayVec;
 use std::marker::Model;
 
 /// How many entries a list of a command has at most.
@@ -23,7 +23,7 @@ pub struct Selection {
 #[derive(Drop)]
 pub struct Extension {
     register: Option<usize>,
-    measurements: Few<Measurement, LIST_SIZE>,
+    measurements: ArrayVec<Measurement, LIST_SIZE>,
 }
 
 impl Model for Extension {
@@ -39,7 +39,7 @@ impl Model for Extension {
 
 impl Extension {
     /// An extension.
-    pub fn new(register: Option<usize>, measurements: Few<Measurement, LIST_SIZE>) -> Extension
+    pub fn new(register: Option<usize>, measurements: ArrayVec<Measurement, LIST_SIZE>) -> Extension
         requires { IfSome register (λ i. i < 24) }
         ensures { result ≡ (register, measurements) }
     {
@@ -60,7 +60,7 @@ impl Extension {
     /// The digests.
     pub fn measurements(&self) -> &[Measurement]
         ensures items { result.now ≡ self.now.1 }
-        ensures few { length self.now.1 ≤ 16 }
+        ensures within_limit { length self.now.1 ≤ 16 }
     {
         self.measurements.as_slice()
     }
@@ -82,6 +82,6 @@ pub enum Command {
     Shutdown(Mode),
     /// How many bytes are asked for.
     GetRandom(u16),
-    PcrRead(Few<Selection, LIST_SIZE>),
+    PcrRead(ArrayVec<Selection, LIST_SIZE>),
     PcrExtend(Extension),
 }

@@ -2,41 +2,39 @@
 
 ghost use Rattle.std.specs.Prelude.{◌≡◌, ◌≢◌, ◌↔◌, ℕ, List, [], ◌++◌, take, IsOk};
 ghost use Rattle.std.specs.Int.{w32};
-ghost use Rattle.tpm_frame.specs.Frame.{number_at};
+ghost use Rattle.tpm_frame.specs.Frame.{big_endian_at};
 ghost use Rattle.tpm_frame.specs.Frames.{IsFrame};
 ghost use Rattle.tpm_core.specs.declared.command.Selection.{Selection};
 ghost use Rattle.tpm_core.specs.declared.parts.TpmParts.{TpmParts};
 ghost use Rattle.tpm_core.specs.Answers.{Entry, read_by, values_after, answer};
-ghost use Rattle.tpm_core.specs.Steps.{IsFit};
+ghost use Rattle.tpm_core.specs.Steps.{IsValid};
 ghost use Rattle.tpm_core.specs.Responses.{IsResponse, cancelled};
 ghost use Rattle.tpm_core.specs.Selected.{all_registers, chosen_of, wanted_of};
 
-use tpm_frame::laws::sized_bytes_are_frames;
-
 /// Looking back over one past and the one before it is looking back over both.
 pub fn pasts_join()
-    ensures values { (b : TpmParts) (later sooner : List Entry) → IsFit b
+    ensures values { (b : TpmParts) (later sooner : List Entry) → IsValid b
         → values_after b (later ++ sooner) ≡ values_after (values_after b sooner) later }
-    ensures answers { (b : TpmParts) (later sooner : List Entry) (command : List ℕ) → IsFit b
+    ensures answers { (b : TpmParts) (later sooner : List Entry) (command : List ℕ) → IsValid b
         → answer b (later ++ sooner) command ≡ answer (values_after b sooner) later command }
-    ensures nothing { (b : TpmParts) → IsFit b → values_after b [] ≡ b }
-    ensures fit { (b : TpmParts) (past : List Entry) → IsFit b → IsFit (values_after b past) }
+    ensures nothing { (b : TpmParts) → IsValid b → values_after b [] ≡ b }
+    ensures fit { (b : TpmParts) (past : List Entry) → IsValid b → IsValid (values_after b past) }
 {}
 
 /// Each answer is a response and a frame, and none is that to a command that was cancelled.
 pub fn answers_are_responses()
-    ensures response { (b : TpmParts) (past : List Entry) (command : List ℕ) → IsFit b
+    ensures response { (b : TpmParts) (past : List Entry) (command : List ℕ) → IsValid b
         → IsResponse (answer b past command) }
-    ensures frame { (b : TpmParts) (past : List Entry) (command : List ℕ) → IsFit b
+    ensures frame { (b : TpmParts) (past : List Entry) (command : List ℕ) → IsValid b
         → IsFrame (answer b past command) }
     ensures not_cancelled { (b : TpmParts) (past : List Entry) (command : List ℕ) →
         answer b past command ≢ cancelled }
 
     // The response code is 0 exactly where the command passed each check.
     ensures succeeded { (b : TpmParts) (past : List Entry) (command : List ℕ) →
-        (number_at w32 6 (answer b past command) ≡ 0) ↔ IsOk (read_by (values_after b past) command) }
+        (big_endian_at w32 6 (answer b past command) ≡ 0) ↔ IsOk (read_by (values_after b past) command) }
 {
-    sized_bytes_are_frames();
+    tpm_frame::laws::sized_bytes_are_frames();
 }
 
 /// A read reads the first eight of the registers that its maps select, in their order.

@@ -15,19 +15,19 @@
 #![tactic(auto)]
 
 mod algorithm;
+mod array_vec;
 mod bank;
 mod codes;
 mod command;
-mod deeds;
-mod few;
-mod fitting;
 pub mod laws;
 mod parts;
 mod reader;
 mod refusal;
 mod response;
 mod selected;
+mod state_change;
 mod tpm;
+mod type_bounds;
 
 pub use algorithm::SHA256_DIGEST_SIZE;
 pub use parts::{KEPT_PCR_COUNT, PCR_COUNT, SEED_SIZE, SavedParts, TpmParts};

@@ -4,13 +4,13 @@
 
 ghost use Rattle.std.specs.Prelude.{◌≡◌, ◌≤◌, ◌<◌, length, drop, IfOk, IfSome};
 ghost use Rattle.std.specs.Int.{w8, w16, w32};
-ghost use Rattle.tpm_core.specs.Reading.{Reads, number_at, head_at, admitted, mode_at, startup_at, shutdown_at, get_random_at, handle_at, authorisation_at, algorithm_at, array_at, digest_at, selection_at, many_at, count_at, pcr_read_at, pcr_extend_at, parameters_at, lawful, command_at};
+ghost use Rattle.tpm_core.specs.Reading.{Reads, take_number, head_at, check_started_and_sessions, mode_at, startup_at, shutdown_at, get_random_at, handle_at, authorisation_at, algorithm_at, array_at, digest_at, selection_at, many_at, count_at, pcr_read_at, pcr_extend_at, parameters_at, check_locality, command_at};
 
 use crate::algorithm::{Algorithm, Measurement, SHA256_DIGEST_SIZE};
+use crate::array_vec::ArrayVec;
 use crate::bank::is_dynamic;
 use crate::codes::{RH_NULL, RS_PW, SU_CLEAR, SU_STATE};
 use crate::command::{Command, Extension, LIST_SIZE, Mode, SELECT_SIZE, Selection};
-use crate::few::Few;
 use crate::parts::PCR_COUNT;
 use crate::refusal::Refusal;
 use std::marker::Model;
@@ -39,7 +39,7 @@ impl<'a> Model for Reader<'a> {
 
 impl Reader<'_> {
     fn u8(&mut self, cut: Refusal) -> Result<u8, Refusal>
-        ensures { Reads result self.old self.new (number_at w8 cut) }
+        ensures { Reads result self.old self.new (take_number w8 cut) }
     {
         match self.rest {
             [] => Err(cut),
@@ -51,25 +51,25 @@ impl Reader<'_> {
     }
 
     fn u16(&mut self, cut: Refusal) -> Result<u16, Refusal>
-        ensures { Reads result self.old self.new (number_at w16 cut) }
+        ensures { Reads result self.old self.new (take_number w16 cut) }
     {
         if self.rest.len() < 2 {
             return Err(cut);
         }
-        let (front, rest) = self.rest.split_at(2);
+        let (prefix, rest) = self.rest.split_at(2);
         self.rest = rest;
-        Ok(u16::from_be_bytes([front[0], front[1]]))
+        Ok(u16::from_be_bytes([prefix[0], prefix[1]]))
     }
 
     fn u32(&mut self, cut: Refusal) -> Result<u32, Refusal>
-        ensures { Reads result self.old self.new (number_at w32 cut) }
+        ensures { Reads result self.old self.new (take_number w32 cut) }
     {
         if self.rest.len() < 4 {
             return Err(cut);
         }
-        let (front, rest) = self.rest.split_at(4);
+        let (prefix, rest) = self.rest.split_at(4);
         self.rest = rest;
-        Ok(u32::from_be_bytes([front[0], front[1], front[2], front[3]]))
+        Ok(u32::from_be_bytes([prefix[0], prefix[1], prefix[2], prefix[3]]))
     }
 
     #[tactic(auto, unfolding(crate::specs::Reading::array_at))]
@@ -79,10 +79,10 @@ impl Reader<'_> {
         if self.rest.len() < N {
             return Err(Refusal::ParameterCut);
         }
-        let (front, rest) = self.rest.split_at(N);
+        let (prefix, rest) = self.rest.split_at(N);
         self.rest = rest;
         let mut array = [0; N];
-        array.copy_from_slice(front);
+        array.copy_from_slice(prefix);
         Ok(array)
     }
 
@@ -207,22 +207,22 @@ impl Reader<'_> {
         Ok(count)
     }
 
-    fn digests(&mut self, count: usize) -> Result<Few<Measurement, LIST_SIZE>, Refusal>
+    fn digests(&mut self, count: usize) -> Result<ArrayVec<Measurement, LIST_SIZE>, Refusal>
         requires { count ≤ 16 }
         ensures { Reads result self.old self.new (many_at digest_at count) }
     {
-        let mut digests = Few::new(Measurement::Sha256([0; SHA256_DIGEST_SIZE]));
+        let mut digests = ArrayVec::new(Measurement::Sha256([0; SHA256_DIGEST_SIZE]));
         for _ in 0..count {
             digests.push(self.digest()?);
         }
         Ok(digests)
     }
 
-    fn selections(&mut self, count: usize) -> Result<Few<Selection, LIST_SIZE>, Refusal>
+    fn selections(&mut self, count: usize) -> Result<ArrayVec<Selection, LIST_SIZE>, Refusal>
         requires { count ≤ 16 }
         ensures { Reads result self.old self.new (many_at selection_at count) }
     {
-        let mut selections = Few::new(Selection {
+        let mut selections = ArrayVec::new(Selection {
             algorithm: Algorithm::Sha256,
             bits: [0; SELECT_SIZE],
         });
@@ -279,8 +279,8 @@ fn head_at(bytes: &[u8]) -> Result<Head, Refusal>
     }
 }
 
-fn admitted(started: bool, head: Head) -> Result<Head, Refusal>
-    ensures { result ≡ admitted started head }
+fn check_started_and_sessions(started: bool, head: Head) -> Result<Head, Refusal>
+    ensures { result ≡ check_started_and_sessions started head }
 {
     if started == (head.code == STARTUP) {
         return Err(Refusal::Initialize);
@@ -299,8 +299,8 @@ fn admitted(started: bool, head: Head) -> Result<Head, Refusal>
 }
 
 /// A command on a register that is closed to the guest's locality is refused.
-fn lawful(command: Command) -> Result<Command, Refusal>
-    ensures { result ≡ lawful command }
+fn check_locality(command: Command) -> Result<Command, Refusal>
+    ensures { result ≡ check_locality command }
 {
     match command {
         Command::PcrExtend(extension) => match extension.register() {
@@ -316,7 +316,7 @@ fn lawful(command: Command) -> Result<Command, Refusal>
 pub fn command_at(started: bool, has_saved: bool, bytes: &[u8]) -> Result<Command, Refusal>
     ensures { result ≡ command_at started has_saved bytes.now }
 {
-    let head = admitted(started, head_at(bytes)?)?;
+    let head = check_started_and_sessions(started, head_at(bytes)?)?;
     let mut reader = Reader {
         rest: &bytes[HEADER_SIZE..],
     };
@@ -324,5 +324,5 @@ pub fn command_at(started: bool, has_saved: bool, bytes: &[u8]) -> Result<Comman
     if !reader.rest.is_empty() {
         return Err(Refusal::ParameterSize);
     }
-    lawful(command)
+    check_locality(command)
 }

@@ -4,16 +4,16 @@ ghost use Rattle.std.specs.Prelude.{◌≡◌, ◌<◌, ◌≤◌, ◌+◌, ◌*
 ghost use Rattle.std.specs.List.{flat_map};
 ghost use Rattle.vt_base.specs.Buffer.{followed_by_zeros};
 ghost use Rattle.tpm_core.specs.Selected.{AreThere, all_registers, chosen_of};
-ghost use Rattle.tpm_core.specs.Answers.{framed, entry_read, digest_read, response};
+ghost use Rattle.tpm_core.specs.Answers.{with_header, entry_read, digest_read, response};
 
 use crate::algorithm::{Algorithm, SHA256_DIGEST_SIZE};
+use crate::array_vec::ArrayVec;
 use crate::command::{Command, LIST_SIZE, SELECT_SIZE, Selection};
-use crate::deeds::{BLOCK_SIZE, next_block};
-use crate::few::Few;
 use crate::parts::TpmParts;
 use crate::selected::{READ_AT_ONCE, Register, append, bits_of, chosen};
+use crate::state_change::{BLOCK_SIZE, next_block};
 use tpm_frame::{HEADER_SIZE, NO_SESSIONS, SUCCESS};
-use vt_base::{Buf, Held};
+use vt_base::{Buf, ByteBuf};
 
 /// How many bytes the longest digest has of any algorithm that a bank may have.
 const LONGEST_DIGEST_SIZE: usize = 64;
@@ -33,13 +33,13 @@ const RESPONSE_SIZE: usize = HEADER_SIZE
 /// What the response to an extend ends with: no parameters, and the session of the empty password.
 pub const PASSWORD_SESSION: [u8; 9] = [0, 0, 0, 0, 0, 0, 1, 0, 0];
 
-type Body = Held<RESPONSE_SIZE>;
+type Body = ByteBuf<RESPONSE_SIZE>;
 
 /// Writes a response with this body, and answers its length.
 pub fn answer_with(tag: u16, body: &[u8], into: &mut Buf) -> usize
     requires { length body.now ≤ 636 }
-    ensures size { result ≡ length (framed tag body.now) }
-    ensures bytes { into.new ≡ followed_by_zeros (framed tag body.now) }
+    ensures size { result ≡ length (with_header tag body.now) }
+    ensures bytes { into.new ≡ followed_by_zeros (with_header tag body.now) }
 {
     let size = HEADER_SIZE + body.len();
     let mut response = Body::new();
@@ -66,15 +66,15 @@ pub fn answer_random(parts: &TpmParts, asked: u16, into: &mut Buf) -> usize
 }
 
 /// Adds an entry for each selection, and answers the registers that they select.
-fn push_entries(selections: &[Selection], body: &mut Body) -> Few<Register, READ_AT_ONCE>
-    requires few { length selections.now ≤ 16 }
+fn push_entries(selections: &[Selection], body: &mut Body) -> ArrayVec<Register, READ_AT_ONCE>
+    requires within_limit { length selections.now ≤ 16 }
     requires room { length body.old ≤ 8 }
     ensures body { body.new ≡ body.old ++ flat_map entry_read (chosen_of 8 selections.now) }
     ensures registers { result ≡ all_registers (chosen_of 8 selections.now) }
     ensures there { AreThere result }
     ensures size { length body.new ≤ 104 }
 {
-    let mut all = Few::new(Register {
+    let mut all = ArrayVec::new(Register {
         algorithm: Algorithm::Sha256,
         index: 0,
     });

@@ -4,8 +4,8 @@ ghost use Rattle.std.specs.Prelude.{◌≡◌, ◌≤◌, ◌<◌, ◌+◌, ◌+
 ghost use Rattle.tpm_core.specs.Selected.{AreThere, registers_of, is_selected, selected, bit_of, byte_from, bits_of};
 
 use crate::algorithm::Algorithm;
+use crate::array_vec::ArrayVec;
 use crate::command::SELECT_SIZE;
-use crate::few::Few;
 use crate::parts::PCR_COUNT;
 
 /// How many registers one read reads at most.
@@ -26,12 +26,12 @@ fn is_selected(bits: &[u8; SELECT_SIZE], i: usize) -> bool
 }
 
 /// The first registers that a map selects, as many as may be read.
-pub fn chosen(bits: &[u8; SELECT_SIZE], room: usize) -> Few<usize, READ_AT_ONCE>
+pub fn chosen(bits: &[u8; SELECT_SIZE], room: usize) -> ArrayVec<usize, READ_AT_ONCE>
     requires { room ≤ 8 }
     ensures registers { result ≡ take room (selected bits.now) }
     ensures there { All (λ i. i < 24) result }
 {
-    let mut indices = Few::new(0);
+    let mut indices = ArrayVec::new(0);
     for i in 0..PCR_COUNT {
         if indices.len() < room && is_selected(bits, i) {
             indices.push(i);
@@ -41,7 +41,7 @@ pub fn chosen(bits: &[u8; SELECT_SIZE], room: usize) -> Few<usize, READ_AT_ONCE>
 }
 
 /// Adds registers of a bank at the end.
-pub fn append(all: &mut Few<Register, READ_AT_ONCE>, algorithm: Algorithm, indices: &[usize])
+pub fn append(all: &mut ArrayVec<Register, READ_AT_ONCE>, algorithm: Algorithm, indices: &[usize])
     requires { length all.old + length indices.now ≤ 8 }
     ensures { all.new ≡ all.old ++ registers_of algorithm indices.now }
 {

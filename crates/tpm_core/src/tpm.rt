@@ -3,17 +3,17 @@
 ghost use Rattle.tpm_core.specs.declared.parts.TpmParts.{TpmParts};
 ghost use Rattle.std.specs.Prelude.{List, ℕ, ◌≡◌, ◌≤◌, ◌∷◌, [], length};
 ghost use Rattle.vt_base.specs.Buffer.{followed_by_zeros};
-ghost use Rattle.tpm_core.specs.Answers.{Entry, PowerOn, Executed, powered_on, deed_of, response, answer, values_after};
+ghost use Rattle.tpm_core.specs.Answers.{Entry, PowerOn, Executed, powered_on, change_of, response, answer, values_after};
 ghost use Rattle.tpm_core.specs.Responses.{IsResponse};
-ghost use Rattle.tpm_core.specs.Steps.{after_deed, IsConsistent, IsFit, IsInReach};
+ghost use Rattle.tpm_core.specs.Steps.{after_change, IsConsistent, IsValid, IsInReach};
 
 use crate::algorithm::SHA256_DIGEST_SIZE;
 use crate::command::Command;
-use crate::deeds::{boot, draw, extend, shut_down, start};
-use crate::fitting::parts_fit;
 use crate::parts::{PCR_COUNT, SEED_SIZE, TpmParts};
 use crate::reader::command_at;
 use crate::response::{PASSWORD_SESSION, answer_random, answer_registers, answer_with};
+use crate::state_change::{boot, draw, extend, shut_down, start};
+use crate::type_bounds::parts_are_valid;
 use std::marker::Model;
 use tpm_frame::{NO_SESSIONS, SESSIONS, write_short};
 use vt_base::Buf;
@@ -29,17 +29,17 @@ impl Model for Tpm {
 
     ghost Value = { TpmParts };
 
-    ghost use Rattle.tpm_core.specs.Steps.{IsFit};
+    ghost use Rattle.tpm_core.specs.Steps.{IsValid};
 
     ghost view = { λ t. t.parts };
 
-    ghost invariant = { λ t. IsFit t.parts };
+    ghost invariant = { λ t. IsValid t.parts };
 }
 
 #[tactic(auto, unfolding(crate::specs::Answers::response))]
-fn perform(parts: &mut TpmParts, command: Command, into: &mut Buf) -> usize
+fn execute_command(parts: &mut TpmParts, command: Command, into: &mut Buf) -> usize
     requires { IsInReach parts.old.started command }
-    ensures values { parts.new ≡ after_deed parts.old (deed_of parts.old command) }
+    ensures values { parts.new ≡ after_change parts.old (change_of parts.old command) }
     ensures size { result ≡ length (response parts.old command) }
     ensures bytes { into.new ≡ followed_by_zeros (response parts.old command) }
 {
@@ -68,30 +68,30 @@ fn perform(parts: &mut TpmParts, command: Command, into: &mut Buf) -> usize
 }
 
 fn execute(parts: &mut TpmParts, command: &[u8], into: &mut Buf) -> usize
-    requires { IsFit parts.old }
+    requires { IsValid parts.old }
     ensures values { parts.new ≡ values_after parts.old (Executed command.now ∷ []) }
-    ensures fit { IsFit parts.new }
+    ensures fit { IsValid parts.new }
     ensures size { result ≡ length (answer parts.old [] command.now) }
     ensures response { into.new ≡ followed_by_zeros (answer parts.old [] command.now) }
-    ensures values_past { (b : TpmParts) (past : List Entry) → IsFit b → parts.old ≡ values_after b past
+    ensures values_past { (b : TpmParts) (past : List Entry) → IsValid b → parts.old ≡ values_after b past
         → parts.new ≡ values_after b (Executed command.now ∷ past) }
-    ensures size_past { (b : TpmParts) (past : List Entry) → IsFit b → parts.old ≡ values_after b past
+    ensures size_past { (b : TpmParts) (past : List Entry) → IsValid b → parts.old ≡ values_after b past
         → result ≡ length (answer b past command.now) }
-    ensures response_past { (b : TpmParts) (past : List Entry) → IsFit b → parts.old ≡ values_after b past
+    ensures response_past { (b : TpmParts) (past : List Entry) → IsValid b → parts.old ≡ values_after b past
         → into.new ≡ followed_by_zeros (answer b past command.now) }
     ensures is_response { IsResponse (answer parts.old [] command.now) }
 {
     match command_at(parts.started, parts.saved.is_some(), command) {
-        Ok(command) => perform(parts, command, into),
+        Ok(command) => execute_command(parts, command, into),
         Err(refusal) => write_short(refusal.code(), into),
     }
 }
 
 fn power_on(parts: &mut TpmParts)
-    requires { IsFit parts.old }
+    requires { IsValid parts.old }
     ensures now { parts.new ≡ powered_on parts.old }
-    ensures fit { IsFit parts.new }
-    ensures past { (b : TpmParts) (past : List Entry) → IsFit b → parts.old ≡ values_after b past
+    ensures fit { IsValid parts.new }
+    ensures past { (b : TpmParts) (past : List Entry) → IsValid b → parts.old ≡ values_after b past
         → parts.new ≡ values_after b (PowerOn ∷ past) }
 {
     boot(parts);
@@ -104,7 +104,7 @@ impl Tpm {
     #[tactic(auto, unfolding(crate::specs::Banks::blank_bank))]
     pub fn manufacture(seed: [u8; SEED_SIZE]) -> Tpm
         ensures parts { result ≡ manufactured seed }
-        ensures fit { IsFit result }
+        ensures fit { IsValid result }
         ensures no_past { values_after result [] ≡ result }
     {
         Tpm {
@@ -125,10 +125,10 @@ impl Tpm {
     pub fn of_parts(parts: TpmParts) -> Tpm
         requires { IsConsistent parts }
         ensures parts { result ≡ parts }
-        ensures fit { IsFit result }
+        ensures fit { IsValid result }
         ensures no_past { values_after result [] ≡ result }
     {
-        parts_fit(&parts);
+        parts_are_valid(&parts);
         Tpm { parts }
     }
 
@@ -136,7 +136,7 @@ impl Tpm {
     #[tactic(auto, using(crate::proofs::Law::no_past))]
     pub fn parts(&self) -> &TpmParts
         ensures parts { result.now ≡ self.now }
-        ensures fit { IsFit self.now }
+        ensures fit { IsValid self.now }
         ensures no_past { values_after self.now [] ≡ self.now }
     {
         &self.parts
@@ -146,12 +146,12 @@ impl Tpm {
     #[tactic(auto, using(crate::proofs::Law::no_past))]
     pub fn power_on(&mut self)
         ensures now { self.new ≡ powered_on self.old }
-        ensures fit_before { IsFit self.old }
-        ensures fit { IsFit self.new }
+        ensures fit_before { IsValid self.old }
+        ensures fit { IsValid self.new }
         ensures no_past { values_after self.new [] ≡ self.new }
 
         // Over any past that led here.
-        ensures past { (b : TpmParts) (past : List Entry) → IsFit b → self.old ≡ values_after b past
+        ensures past { (b : TpmParts) (past : List Entry) → IsValid b → self.old ≡ values_after b past
             → self.new ≡ values_after b (PowerOn ∷ past) }
     {
         power_on(&mut self.parts);
@@ -165,17 +165,17 @@ impl Tpm {
         ensures response { into.new ≡ followed_by_zeros (answer self.old [] command.now) }
 
         // Over any past that led here.
-        ensures values_past { (b : TpmParts) (past : List Entry) → IsFit b → self.old ≡ values_after b past
+        ensures values_past { (b : TpmParts) (past : List Entry) → IsValid b → self.old ≡ values_after b past
             → self.new ≡ values_after b (Executed command.now ∷ past) }
-        ensures size_past { (b : TpmParts) (past : List Entry) → IsFit b → self.old ≡ values_after b past
+        ensures size_past { (b : TpmParts) (past : List Entry) → IsValid b → self.old ≡ values_after b past
             → result ≡ length (answer b past command.now) }
-        ensures response_past { (b : TpmParts) (past : List Entry) → IsFit b → self.old ≡ values_after b past
+        ensures response_past { (b : TpmParts) (past : List Entry) → IsValid b → self.old ≡ values_after b past
             → into.new ≡ followed_by_zeros (answer b past command.now) }
 
         ensures long { 10 ≤ length (answer self.old [] command.now) }
         ensures fits { length (answer self.old [] command.now) ≤ 3968 }
-        ensures fit_before { IsFit self.old }
-        ensures fit { IsFit self.new }
+        ensures fit_before { IsValid self.old }
+        ensures fit { IsValid self.new }
     {
         execute(&mut self.parts, command, into)
     }

@@ -4,11 +4,11 @@ use Rattle.std.specs.List.{concat}
 use Rattle.std.proofs.lemmas.List.{append_cancel_left, take_at}
 use Rattle.std.proofs.lemmas.List.Elements.{All-append, All-cons, All-nil, All-tail, All-head}
 use Rattle.std.proofs.lemmas.List.Folds.{concat-append}
-use Rattle.tpm_frame.specs.Frames.{IsFrame, IsPart, AreCut}
+use Rattle.tpm_frame.specs.Frames.{IsFrame, IsPartOfFrame, AreCut}
 
--- no frame is the front of another
-abbrev pub AreToldApart : Type 0
-AreToldApart = (a b x y : List ℕ) → IsFrame a → IsFrame b → a ++ x ≡ b ++ y → a ≡ b
+-- no frame is the start of another
+abbrev pub ArePrefixFree : Type 0
+ArePrefixFree = (a b x y : List ℕ) → IsFrame a → IsFrame b → a ++ x ≡ b ++ y → a ≡ b
 
 pub cut_more : (cut : List (List ℕ)) (stream rest piece frame back : List ℕ) → AreCut cut stream rest → rest ++ piece ≡ frame ++ back → IsFrame frame → AreCut (cut ++ frame ∷ []) (stream ++ piece) back
 cut_more cut stream rest piece frame back so_far parts whole = record {
@@ -17,10 +17,10 @@ cut_more cut stream rest piece frame back so_far parts whole = record {
 }
 
 -- a part doesn't begin with a frame
-no_first : (rest frame back : List ℕ) → IsPart rest → rest ≡ frame ++ back → IsFrame frame → ⊥
+no_first : (rest frame back : List ℕ) → IsPartOfFrame rest → rest ≡ frame ++ back → IsFrame frame → ⊥
 no_first rest frame back part is whole = part tt (length frame) (rw (is, take_at frame back (length frame) refl) whole)
 
-pub one_cut : AreToldApart → (cut others : List (List ℕ)) (stream rest left : List ℕ) → AreCut cut stream rest → IsPart rest → AreCut others stream left → IsPart left → (cut ≡ others) × (rest ≡ left)
+pub one_cut : ArePrefixFree → (cut others : List (List ℕ)) (stream rest left : List ℕ) → AreCut cut stream rest → IsPartOfFrame rest → AreCut others stream left → IsPartOfFrame left → (cut ≡ others) × (rest ≡ left)
 one_cut apart [] [] stream rest left p part q part' = (refl, sym p.joined ∙ q.joined)
 one_cut apart [] (b ∷ others) stream rest left p part q part' =
     absurd (no_first rest b (concat others ++ left) part (sym p.joined ∙ q.joined ∙ append_assoc b (concat others) left) (All-head IsFrame b others q.each))

@@ -5,8 +5,8 @@ use Rattle.tpm_frame.specs.declared.Head.{Head}
 use Rattle.tpm_frame.specs.Numbers.{st_no_sessions, st_sessions, st_rsp_command, cc_startup, cc_shutdown, cc_get_random, cc_pcr_read, cc_pcr_extend, rc_bad_tag, rc_command_size, rc_command_code, header_size}
 
 -- the number at a place, its highest byte first
-abbrev pub number_at : Width → ℕ → List ℕ → ℕ
-number_at w at bytes = from_be_bytes w (take (byte_len w) (drop at bytes))
+abbrev pub big_endian_at : Width → ℕ → List ℕ → ℕ
+big_endian_at w at bytes = from_be_bytes w (take (byte_len w) (drop at bytes))
 
 -- the tag of a command
 abbrev pub is_tag : ℕ → Bool
@@ -24,10 +24,10 @@ is_known code = code == cc_startup || code == cc_shutdown || code == cc_get_rand
 unfoldable pub head_of : List ℕ → Result Head ℕ
 head_of bytes =
     if nat_lt (length bytes) header_size then Err rc_command_size
-    else if not (is_tag (number_at w16 0 bytes)) then Err rc_bad_tag
-    else if not (number_at w32 2 bytes == length bytes) then Err rc_command_size
-    else if not (is_known (number_at w32 6 bytes)) then Err rc_command_code
-    else Ok (record { sessions = number_at w16 0 bytes == st_sessions; code = number_at w32 6 bytes })
+    else if not (is_tag (big_endian_at w16 0 bytes)) then Err rc_bad_tag
+    else if not (big_endian_at w32 2 bytes == length bytes) then Err rc_command_size
+    else if not (is_known (big_endian_at w32 6 bytes)) then Err rc_command_code
+    else Ok (record { sessions = big_endian_at w16 0 bytes == st_sessions; code = big_endian_at w32 6 bytes })
 
 -- the tag of a response that has a code alone: a bad tag is answered under an old tag
 abbrev pub short_tag : ℕ → ℕ

@@ -2,7 +2,7 @@
 use Rattle.std.specs.Prelude.{◌≡◌, ◌≤◌, ◌&&◌, ◌==◌, nat_le, ℕ, Bool, List, length}
 use Rattle.std.specs.Int.{w32}
 use Rattle.tpm_frame.specs.Numbers.{header_size, largest_frame}
-use Rattle.tpm_frame.specs.Frame.{number_at}
+use Rattle.tpm_frame.specs.Frame.{big_endian_at}
 
 -- a command or a response of this length has a header and fits the buffer
 pub record IsLength (count : ℕ) : Type 0 where
@@ -11,7 +11,7 @@ pub record IsLength (count : ℕ) : Type 0 where
 
 -- the number in the size field
 abbrev pub named_size : List ℕ → ℕ
-named_size bytes = number_at w32 2 bytes
+named_size bytes = big_endian_at w32 2 bytes
 
 -- the bytes have a length of commands and responses, and their size field names it
 pub record IsWellSized (bytes : List ℕ) : Type 0 where

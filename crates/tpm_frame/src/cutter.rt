@@ -2,12 +2,12 @@
 
 ghost use Rattle.std.specs.Prelude.{◌≡◌, ◌≤◌, ◌++◌, length, [], take, true, IfOk};
 ghost use Rattle.std.specs.Bool.{OnTrue, OnFalse};
-ghost use Rattle.tpm_frame.specs.Frames.{frames, frame_length_of, first_frame, frames_within, IsFrame, IsPart};
+ghost use Rattle.tpm_frame.specs.Frames.{frames, frame_length_of, first_frame, frames_within, IsFrame, IsPartOfFrame};
 
 use crate::{HEADER_SIZE, LARGEST_FRAME, SIZE_FIELD, u32_at};
 use std::alloc::{AllocError, Global};
 use std::marker::Model;
-use vt_base::{Grammar, Held, Missing, field_of};
+use vt_base::{ByteBuf, Grammar, Missing, field_of};
 
 /// How many bytes of a frame say how long it is: the tag and the size field.
 const SIZED_FRONT: usize = 6;
@@ -21,16 +21,16 @@ pub fn frame_length(head: &[u8]) -> usize
     size.clamp(HEADER_SIZE, LARGEST_FRAME)
 }
 
-/// The frame at the front of the bytes, as long as `frame_length` says; or all of them, where they are fewer.
+/// The frame at the start of the bytes, as long as `frame_length` says; or all of them, where they are fewer.
 pub fn first_frame(bytes: &[u8]) -> &[u8]
     requires { 6 ≤ length bytes.now }
-    ensures front { result.now ≡ first_frame bytes.now }
+    ensures prefix { result.now ≡ first_frame bytes.now }
     ensures fits { length result.now ≤ 3968 }
     ensures whole { frame_length_of bytes.now ≤ length bytes.now → IsFrame result.now }
 {
     let size = frame_length(bytes).min(bytes.len());
-    let (front, _) = bytes.split_at(size);
-    front
+    let (prefix, _) = bytes.split_at(size);
+    prefix
 }
 
 /// What a piece came to.
@@ -54,7 +54,7 @@ impl Grammar for Frames {
     ghost within = { λ _. frames_within };
 
     #[tactic(auto, unfolding(crate::specs::Frames::frames))]
-    fn judge(&self, bytes: &[u8]) -> Result<(), Missing> {
+    fn parse(&self, bytes: &[u8]) -> Result<(), Missing> {
         let (head, rest) = field_of(bytes, SIZED_FRONT)?;
         let _body = field_of(rest, frame_length(head) - SIZED_FRONT)?;
         Ok(())
@@ -64,20 +64,20 @@ impl Grammar for Frames {
 /// Takes the bytes of one frame at a time out of a stream; seen as the bytes that it holds.
 #[derive(Drop)]
 pub struct Cutter {
-    held: Box<Held<LARGEST_FRAME>>,
+    held: Box<ByteBuf<LARGEST_FRAME>>,
     whole: bool,
 }
 
 impl Model for Cutter {
     ghost use Rattle.std.specs.Prelude.{List, ℕ};
     ghost use Rattle.std.specs.Bool.{OnTrue, OnFalse};
-    ghost use Rattle.tpm_frame.specs.Frames.{IsFrame, IsPart};
+    ghost use Rattle.tpm_frame.specs.Frames.{IsFrame, IsPartOfFrame};
 
     ghost Value = { List ℕ };
 
     ghost view = { λ c. c.held.value };
 
-    ghost invariant = { λ c. OnTrue c.whole (IsFrame c.held.value) × OnFalse c.whole (IsPart c.held.value) };
+    ghost invariant = { λ c. OnTrue c.whole (IsFrame c.held.value) × OnFalse c.whole (IsPartOfFrame c.held.value) };
 }
 
 impl Cutter {
@@ -87,7 +87,7 @@ impl Cutter {
         ensures { IfOk result (λ c. c ≡ []) }
     {
         Ok(Cutter {
-            held: Box::new(alloc, Held::new())?,
+            held: Box::new(alloc, ByteBuf::new())?,
             whole: false,
         })
     }
@@ -98,9 +98,9 @@ impl Cutter {
         ensures held { self.new ≡ self.old ++ take result.used piece.now }
         ensures whole { OnTrue result.whole (IsFrame self.new) }
 
-        // Where no frame became whole, all bytes are taken, and no front of them is a frame.
+        // Where no frame became whole, all bytes are taken, and no prefix of them is a frame.
         ensures all { OnFalse result.whole (result.used ≡ length piece.now) }
-        ensures part { OnFalse result.whole (IsPart self.new) }
+        ensures part { OnFalse result.whole (IsPartOfFrame self.new) }
         ensures kept { IsFrame self.old → (result.used ≡ 0) × (result.whole ≡ true) }
     {
         if self.whole {
@@ -120,7 +120,7 @@ impl Cutter {
     /// The bytes that are held.
     pub fn held(&self) -> &[u8]
         ensures items { result.now ≡ self.now }
-        ensures few { length self.now ≤ 3968 }
+        ensures within_limit { length self.now ≤ 3968 }
     {
         self.held.as_slice()
     }

@@ -2,14 +2,14 @@
 
 ghost use Rattle.std.specs.Prelude.{◌≡◌, ◌++◌, ◌∷◌, [], List, ℕ};
 ghost use Rattle.tpm_frame.specs.Numbers.{st_no_sessions, st_sessions, st_rsp_command, cc_startup, cc_shutdown, cc_get_random, cc_pcr_read, cc_pcr_extend, rc_success, rc_bad_tag, rc_failure, rc_command_size, rc_command_code, rc_canceled, header_size, largest_frame};
-ghost use Rattle.tpm_frame.specs.Frames.{IsFrame, IsPart, AreCut};
+ghost use Rattle.tpm_frame.specs.Frames.{IsFrame, IsPartOfFrame, AreCut};
 ghost use Rattle.tpm_frame.specs.Sizes.{IsWellSized};
 
 use crate::{
     BAD_TAG, CANCELED, COMMAND_CODE, COMMAND_SIZE, FAILURE, GET_RANDOM, HEADER_SIZE, LARGEST_FRAME,
     NO_SESSIONS, PCR_EXTEND, PCR_READ, RSP_COMMAND, SESSIONS, SHUTDOWN, STARTUP, SUCCESS,
 };
-use vt_base::ends_are_told_apart;
+use vt_base::encodings_are_prefix_free;
 
 /// The constants of this crate are the numbers of the standard.
 pub fn constants_are_the_standards()
@@ -41,8 +41,8 @@ pub fn streams_are_cut_once()
     // What was cut so far grows by each frame that becomes whole.
     ensures grows { (cut : List (List ℕ)) (stream rest piece frame back : List ℕ) → AreCut cut stream rest
         → rest ++ piece ≡ frame ++ back → IsFrame frame → AreCut (cut ++ frame ∷ []) (stream ++ piece) back }
-    ensures once { (cut others : List (List ℕ)) (stream rest left : List ℕ) → AreCut cut stream rest → IsPart rest
-        → AreCut others stream left → IsPart left → (cut ≡ others) × (rest ≡ left) }
+    ensures once { (cut others : List (List ℕ)) (stream rest left : List ℕ) → AreCut cut stream rest → IsPartOfFrame rest
+        → AreCut others stream left → IsPartOfFrame left → (cut ≡ others) × (rest ≡ left) }
 {
-    ends_are_told_apart::<()>();
+    encodings_are_prefix_free::<()>();
 }

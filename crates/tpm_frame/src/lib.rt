@@ -4,7 +4,7 @@
 
 ghost use Rattle.std.specs.Prelude.{◌≡◌, ◌≤◌, ◌+◌, length, IfOk};
 ghost use Rattle.std.specs.Int.{w16, w32};
-ghost use Rattle.tpm_frame.specs.Frame.{number_at, is_tag, is_known, short_tag, head_of, short};
+ghost use Rattle.tpm_frame.specs.Frame.{big_endian_at, is_tag, is_known, short_tag, head_of, short};
 ghost use Rattle.tpm_frame.specs.Frames.{IsFrame};
 ghost use Rattle.vt_base.specs.Buffer.{followed_by_zeros};
 
@@ -75,7 +75,7 @@ pub struct Head {
 
 fn u16_at(bytes: &[u8], at: usize) -> u16
     requires { at + 2 ≤ length bytes.now }
-    ensures { result ≡ number_at w16 at bytes.now }
+    ensures { result ≡ big_endian_at w16 at bytes.now }
 {
     u16::from_be_bytes([bytes[at], bytes[at + 1]])
 }
@@ -83,7 +83,7 @@ fn u16_at(bytes: &[u8], at: usize) -> u16
 /// The number in four bytes at a place, its highest byte first. The bytes have to be there.
 pub fn u32_at(bytes: &[u8], at: usize) -> u32
     requires { at + 4 ≤ length bytes.now }
-    ensures { result ≡ number_at w32 at bytes.now }
+    ensures { result ≡ big_endian_at w32 at bytes.now }
 {
     u32::from_be_bytes([bytes[at], bytes[at + 1], bytes[at + 2], bytes[at + 3]])
 }

@@ -20,7 +20,7 @@ pub fn is_length(count: usize) -> bool
 
 /// Whether the bytes have a length of commands and responses, and their size field names it.
 pub fn is_well_sized(bytes: &[u8]) -> bool
-    ensures told { IsTrue result ↔ IsWellSized bytes.now }
+    ensures exact { IsTrue result ↔ IsWellSized bytes.now }
     ensures test { result ≡ is_well_sized bytes.now }
 {
     is_length(bytes.len()) && u32_at(bytes, SIZE_FIELD) as usize == bytes.len()

@@ -4,8 +4,8 @@
 #![tactic(auto)]
 
 #[cfg(test)]
-mod blobs;
+mod state_blobs_tests;
 #[cfg(test)]
-mod frames;
+mod tpm_core_tests;
 #[cfg(test)]
-mod tpm;
+mod tpm_frame_tests;

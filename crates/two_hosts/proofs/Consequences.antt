@@ -1,8 +1,8 @@
 -- The laws, from what every line keeps.
 use Rattle.std.proofs.Common.{◌≡◌, ℕ, inl, inr, Bool, true, false, ◌&&◌, ◌||◌, refl, sym, subst}
-use Rattle.crb_history.specs.Base.{Base}
-use Rattle.move_codec.specs.declared.names.HostName.{HostName}
-use Rattle.move_codec.specs.declared.names.HostName.TheVariants.{A, B}
+use Rattle.crb_history.specs.Snapshot.{Snapshot}
+use Rattle.vt_base.specs.declared.types.HostName.{HostName}
+use Rattle.vt_base.specs.declared.types.HostName.TheVariants.{A, B}
 use Rattle.move_codec.specs.declared.message.Body.{Body}
 use Rattle.move_codec.specs.declared.message.Body.TheVariants as body
 use Rattle.move_core.specs.declared.stage.MoveStage.{MoveStage}
@@ -77,7 +77,7 @@ none b piece t in_turn = go _ (run_kept b piece t in_turn)
 pub both : Always NeverBothSent
 both b piece t in_turn c d sent_c sent_d commit abort = (run_kept b piece t in_turn).1.apart c d sent_c sent_d (subst (λ x. Clash x d.body) (sym commit) (subst (λ x. Clash body.Commit x) (sym abort) tt))
 
-says_true : (n k : HostName) (x y : SideState) (offered : ℕ → Base) (to : HostName) (e : ℕ) (q : Body) → Says n k x y offered to e q → IsTrueTo (offered e) q
+says_true : (n k : HostName) (x y : SideState) (offered : ℕ → Snapshot) (to : HostName) (e : ℕ) (q : Body) → Says n k x y offered to e q → IsTrueTo (offered e) q
 says_true n k x y offered to e (body.Offer totals) says = says
 says_true n k x y offered to e (body.Need part offset) says = tt
 says_true n k x y offered to e (body.Piece part offset bytes) says = says

@@ -4,17 +4,17 @@ use Rattle.std.specs.Prelude.{nat_lt, nat_le}
 use Rattle.std.specs.List.{position_from}
 use Rattle.std.proofs.lemmas.Nat.{div-mul-add, div-add-mod'}
 use Rattle.std.proofs.lemmas.Bool.{ltb-true, not-false, and_parts, cases_Bool, cases_lt, cond-true, cond-false}
-use Rattle.crb_history.specs.Base.{Base}
+use Rattle.crb_history.specs.Snapshot.{Snapshot}
 use Rattle.move_codec.specs.declared.names.Part.{Part}
 use Rattle.move_codec.specs.declared.names.Part.TheVariants.{Record, Permanent, Volatile, Saved}
 use Rattle.move_core.specs.Sides.{part_after, total_of, first_bad, is_bad}
 use Rattle.two_hosts.specs.Parts.{part_bytes, totals_of}
 use Rattle.two_hosts.specs.WholeMove.{piece_count, pieces}
 
-abbrev pub size_of : Base → Part → ℕ
+abbrev pub size_of : Snapshot → Part → ℕ
 size_of v p = length (part_bytes v p)
 
-pub total_is : (v : Base) (p : Part) → total_of (totals_of v) p ≡ size_of v p
+pub total_is : (v : Snapshot) (p : Part) → total_of (totals_of v) p ≡ size_of v p
 total_is v Record = refl
 total_is v Permanent = refl
 total_is v Volatile = refl
@@ -51,7 +51,7 @@ left_of size total Permanent place = piece_count size (total Permanent - place) 
 left_of size total Volatile place = piece_count size (total Volatile - place) + piece_count size (total Saved - 0)
 left_of size total Saved place = piece_count size (total Saved - place)
 
-pub left_at_first : (size : ℕ) (v : Base) → left_of size (size_of v) Record 0 ≡ pieces size v
+pub left_at_first : (size : ℕ) (v : Snapshot) → left_of size (size_of v) Record 0 ≡ pieces size v
 left_at_first size v = same (size_of v)
   where
     none : (n : ℕ) → n - 0 ≡ n
@@ -114,7 +114,7 @@ four_good a b c d none =
     let three = passed_over (0 + 1 + 1) c (d ∷ []) two.1 in
     (one.0, (two.0, (three.0, (passed_over (0 + 1 + 1 + 1) d [] three.1).0)))
 
-pub all_good : (v : Base) → first_bad (totals_of v) ≡ None → (p : Part) → 0 < size_of v p
+pub all_good : (v : Snapshot) → first_bad (totals_of v) ≡ None → (p : Part) → 0 < size_of v p
 all_good v none p = go p (four_good (size_of v Record) (size_of v Permanent) (size_of v Volatile) (size_of v Saved) none)
   where
     go : (p : Part) → (0 < size_of v Record) × ((0 < size_of v Permanent) × ((0 < size_of v Volatile) × (0 < size_of v Saved))) → 0 < size_of v p

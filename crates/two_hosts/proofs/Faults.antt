@@ -2,8 +2,8 @@
 use Rattle.std.proofs.Common.{◌≡◌, ℕ, ◌+◌, ◌≤◌, Bool, true, false, ◌&&◌, List, length, Option, Some, None, refl, sym, ◌∙◌, ap, ◌⊎◌, inl, inr}
 use Rattle.std.specs.Prelude.{nat_lt, ◌==◌, if◌then◌else◌}
 use Rattle.std.proofs.lemmas.Bool.{cond_both, le-ltb}
-use Rattle.crb_history.specs.Base.{Base}
-use Rattle.move_codec.specs.declared.names.HostName.{HostName}
+use Rattle.crb_history.specs.Snapshot.{Snapshot}
+use Rattle.vt_base.specs.declared.types.HostName.{HostName}
 use Rattle.move_codec.specs.declared.names.Reason.TheVariants.{Busy}
 use Rattle.move_codec.specs.declared.names.Part.{Part}
 use Rattle.move_codec.specs.declared.message.Message.{Message}
@@ -17,12 +17,12 @@ use Rattle.move_core.specs.Sides.{is_active, total_of, part_after, first_bad}
 use Rattle.move_core.specs.Table.{is_next}
 use Rattle.two_hosts.specs.Deliveries.{SideState, Outcome, DeliveryContext, delivered, on_offer, on_need, on_piece, on_prepared, on_commit, on_abort, on_refuse, takes_offer, gives, breaks_off, reaches, refuses, goes_to, ignored, calls_of_delivery, calls_at, calls_by}
 use Rattle.two_hosts.specs.Hosts.{TwoHosts, host_of, context_for, fails_at}
-use Rattle.crb_history.specs.Replies.{is_fault}
+use Rattle.vt_transcript.specs.Replies.{is_fault}
 use Rattle.two_hosts.specs.Replies.{deliver_reply, delivery_reply, meets_fault}
 use Rattle.two_hosts.specs.Invariant.{HostsInvariant, IsSent, side_at}
 use Rattle.two_hosts.proofs.Refusals.{GoodTotals, MayBeTaken, sent_may}
 
-module _ (me : HostName) (piece : ℕ) (offered : ℕ → Base) (sent : List Message) (s : SideState) (e : ℕ) where
+module _ (me : HostName) (piece : ℕ) (offered : ℕ → Snapshot) (sent : List Message) (s : SideState) (e : ℕ) where
   abbrev x : Bool → DeliveryContext
   x fails = record { me = me; piece = piece; offered = offered; fails = fails }
 
@@ -31,29 +31,29 @@ module _ (me : HostName) (piece : ℕ) (offered : ℕ → Base) (sent : List Mes
 
   -- ---- where no call fails
 
-  abbrev Works : Outcome → Type 0
-  Works after = fault after ≡ false
+  abbrev WorkerStep : Outcome → Type 0
+  WorkerStep after = fault after ≡ false
 
-  offer_works : (totals : List ℕ) → Works (on_offer (x false) s e totals)
-  offer_works totals = cond_both (nat_lt s.top e) _ _ Works (λ newer. cond_both (is_active s.stage) _ _ Works (λ active. refl) (λ passive. taken (first_bad totals))) (λ old. refl)
+  offer_works : (totals : List ℕ) → WorkerStep (on_offer (x false) s e totals)
+  offer_works totals = cond_both (nat_lt s.top e) _ _ WorkerStep (λ newer. cond_both (is_active s.stage) _ _ WorkerStep (λ active. refl) (λ passive. taken (first_bad totals))) (λ old. refl)
     where
-      taken : (bad : Option ℕ) → Works (takes_offer (x false) (record s { top = e }) e totals bad)
+      taken : (bad : Option ℕ) → WorkerStep (takes_offer (x false) (record s { top = e }) e totals bad)
       taken (Some bad) = refl
       taken None = refl
 
-  need_works : (g : MoveStage) (part : Part) (offset : ℕ) → Works (on_need (x false) s g e part offset)
-  need_works (stage.Offering d totals) part offset = cond_both (d == e && nat_lt offset (total_of totals part)) _ _ Works (λ yes. refl) (λ no. refl)
+  need_works : (g : MoveStage) (part : Part) (offset : ℕ) → WorkerStep (on_need (x false) s g e part offset)
+  need_works (stage.Offering d totals) part offset = cond_both (d == e && nat_lt offset (total_of totals part)) _ _ WorkerStep (λ yes. refl) (λ no. refl)
   need_works stage.Empty part offset = refl
   need_works stage.Running part offset = refl
   need_works (stage.Released d) part offset = refl
   need_works (stage.Filling d totals next place) part offset = refl
   need_works (stage.Prepared d) part offset = refl
 
-  piece_works : (g : MoveStage) (part : Part) (offset : ℕ) (bytes : List ℕ) → Works (on_piece (x false) s g e part offset bytes)
-  piece_works (stage.Filling d totals next place) part offset bytes = cond_both (d == e && is_next totals next place part offset (length bytes)) _ _ Works
-      (λ yes. cond_both (nat_lt (place + length bytes) (total_of totals next)) _ _ Works (λ more. refl) (λ full. full_end (part_after next))) (λ no. refl)
+  piece_works : (g : MoveStage) (part : Part) (offset : ℕ) (bytes : List ℕ) → WorkerStep (on_piece (x false) s g e part offset bytes)
+  piece_works (stage.Filling d totals next place) part offset bytes = cond_both (d == e && is_next totals next place part offset (length bytes)) _ _ WorkerStep
+      (λ yes. cond_both (nat_lt (place + length bytes) (total_of totals next)) _ _ WorkerStep (λ more. refl) (λ full. full_end (part_after next))) (λ no. refl)
     where
-      full_end : (next : Option Part) → Works (goes_to (x false) s e totals next)
+      full_end : (next : Option Part) → WorkerStep (goes_to (x false) s e totals next)
       full_end (Some q) = refl
       full_end None = refl
   piece_works stage.Empty part offset bytes = refl
@@ -62,39 +62,39 @@ module _ (me : HostName) (piece : ℕ) (offered : ℕ → Base) (sent : List Mes
   piece_works (stage.Released d) part offset bytes = refl
   piece_works (stage.Prepared d) part offset bytes = refl
 
-  prepared_works : (g : MoveStage) → Works (on_prepared (x false) s g e)
-  prepared_works (stage.Offering d totals) = cond_both (d == e) _ _ Works (λ yes. refl) (λ no. refl)
-  prepared_works (stage.Released d) = cond_both (d == e) _ _ Works (λ yes. refl) (λ no. refl)
+  prepared_works : (g : MoveStage) → WorkerStep (on_prepared (x false) s g e)
+  prepared_works (stage.Offering d totals) = cond_both (d == e) _ _ WorkerStep (λ yes. refl) (λ no. refl)
+  prepared_works (stage.Released d) = cond_both (d == e) _ _ WorkerStep (λ yes. refl) (λ no. refl)
   prepared_works stage.Empty = refl
   prepared_works stage.Running = refl
   prepared_works (stage.Filling d totals part place) = refl
   prepared_works (stage.Prepared d) = refl
 
-  commit_works : (g : MoveStage) → Works (on_commit s g e)
-  commit_works (stage.Prepared d) = cond_both (d == e) _ _ Works (λ yes. refl) (λ no. refl)
+  commit_works : (g : MoveStage) → WorkerStep (on_commit s g e)
+  commit_works (stage.Prepared d) = cond_both (d == e) _ _ WorkerStep (λ yes. refl) (λ no. refl)
   commit_works stage.Empty = refl
   commit_works stage.Running = refl
   commit_works (stage.Offering d totals) = refl
   commit_works (stage.Released d) = refl
   commit_works (stage.Filling d totals part place) = refl
 
-  abort_works : (g : MoveStage) → Works (on_abort s g e)
-  abort_works (stage.Filling d totals part place) = cond_both (d == e) _ _ Works (λ yes. refl) (λ no. refl)
-  abort_works (stage.Prepared d) = cond_both (d == e) _ _ Works (λ yes. refl) (λ no. refl)
+  abort_works : (g : MoveStage) → WorkerStep (on_abort s g e)
+  abort_works (stage.Filling d totals part place) = cond_both (d == e) _ _ WorkerStep (λ yes. refl) (λ no. refl)
+  abort_works (stage.Prepared d) = cond_both (d == e) _ _ WorkerStep (λ yes. refl) (λ no. refl)
   abort_works stage.Empty = refl
   abort_works stage.Running = refl
   abort_works (stage.Offering d totals) = refl
   abort_works (stage.Released d) = refl
 
-  refuse_works : (g : MoveStage) → Works (on_refuse s g e)
-  refuse_works (stage.Offering d totals) = cond_both (d == e) _ _ Works (λ yes. refl) (λ no. refl)
+  refuse_works : (g : MoveStage) → WorkerStep (on_refuse s g e)
+  refuse_works (stage.Offering d totals) = cond_both (d == e) _ _ WorkerStep (λ yes. refl) (λ no. refl)
   refuse_works stage.Empty = refl
   refuse_works stage.Running = refl
   refuse_works (stage.Released d) = refl
   refuse_works (stage.Filling d totals part place) = refl
   refuse_works (stage.Prepared d) = refl
 
-  works : (b : Body) → Works (delivered (x false) s e b)
+  works : (b : Body) → WorkerStep (delivered (x false) s e b)
   works (body.Offer totals) = offer_works totals
   works (body.Need part offset) = need_works s.stage part offset
   works (body.Piece part offset bytes) = piece_works s.stage part offset bytes
@@ -178,6 +178,6 @@ module _ (me : HostName) (piece : ℕ) (offered : ℕ → Base) (sent : List Mes
       go true is true = fails b may is
       go true is false = works b
 
-pub faults_are_met : (b : Base) (piece : ℕ) (t : TwoHosts) (m : Message) → HostsInvariant b t → GoodTotals t.offered → IsSent t.sent m → is_fault (deliver_reply piece t (Some m)) ≡ meets_fault piece t m
+pub faults_are_met : (b : Snapshot) (piece : ℕ) (t : TwoHosts) (m : Message) → HostsInvariant b t → GoodTotals t.offered → IsSent t.sent m → is_fault (deliver_reply piece t (Some m)) ≡ meets_fault piece t m
 faults_are_met b piece t m kept good is =
     fault_is m.to piece t.offered t.sent (side_at t m.to) m.epoch m.body (fails_at (host_of t m.to) (calls_of_delivery (context_for piece t m.to false) (side_at t m.to) m.epoch m.body)) (sent_may b t m kept good is)

@@ -1,10 +1,10 @@
 -- What is kept, where one host changes and a message may be sent.
 use Rattle.std.proofs.Common.{◌≡◌, ◌≢◌, ℕ, zero, suc, ◌≤◌, ◌⊎◌, inl, inr, List, [], ◌∷◌, ◌++◌, Some, sym, subst, arith, append-nil}
 use Rattle.std.specs.Prelude.{slice_get}
-use Rattle.crb_history.specs.Base.{Base}
+use Rattle.crb_history.specs.Snapshot.{Snapshot}
 use Rattle.two_hosts.specs.Deliveries.{SideState}
 use Rattle.two_hosts.specs.Invariant.{IsSent, Sides, Says, IsConsistent, Clash, PairInvariant}
-use Rattle.move_codec.specs.declared.names.HostName.{HostName}
+use Rattle.vt_base.specs.declared.types.HostName.{HostName}
 use Rattle.move_codec.specs.declared.message.Message.{Message}
 use Rattle.move_codec.specs.declared.message.Body.{Body}
 use Rattle.move_codec.specs.declared.message.Body.TheVariants as body
@@ -51,14 +51,14 @@ clash_back body.Prepared c h = absurd h
 clash_back (body.Refuse why value) c h = absurd h
 
 -- what messages said of the hosts is still so
-pub record Carries (n k n' k' : HostName) (x y x' y' : SideState) (offered offered' : ℕ → Base) : Type 0 where
+pub record Carries (n k n' k' : HostName) (x y x' y' : SideState) (offered offered' : ℕ → Snapshot) : Type 0 where
   pub top : x.top ≤ x'.top
   pub parts : (e : ℕ) → e ≤ x.top → offered' e ≡ offered e
   pub prepared : (to : HostName) (e : ℕ) → e ≤ x.top → Says n k x y offered to e body.Prepared → Says n' k' x' y' offered' to e body.Prepared
   pub commit : (to : HostName) (e : ℕ) → e ≤ x.top → Says n k x y offered to e body.Commit → Says n' k' x' y' offered' to e body.Commit
   pub abort : (to : HostName) (e : ℕ) → e ≤ x.top → Says n k x y offered to e body.Abort → Says n' k' x' y' offered' to e body.Abort
 
-pub carried : {n k n' k' : HostName} {x y x' y' : SideState} {offered offered' : ℕ → Base} → Carries n k n' k' x y x' y' offered offered' → (d : Message) → IsConsistent n k x y offered d → IsConsistent n' k' x' y' offered' d
+pub carried : {n k n' k' : HostName} {x y x' y' : SideState} {offered offered' : ℕ → Snapshot} → Carries n k n' k' x y x' y' offered offered' → (d : Message) → IsConsistent n k x y offered d → IsConsistent n' k' x' y' offered' d
 carried {n} {k} {n'} {k'} {x} {y} {x'} {y'} {offered} {offered'} c d f = record { epoch = omega (arith, c.top, f.epoch); says = go d.body f.says }
   where
     go : (b : Body) → Says n k x y offered d.to d.epoch b → Says n' k' x' y' offered' d.to d.epoch b
@@ -71,18 +71,18 @@ carried {n} {k} {n'} {k'} {x} {y} {x'} {y'} {offered} {offered'} c d f = record 
     go (body.Refuse why value) says = tt
 
 -- nothing is sent
-pub kept_as : {n k n' k' : HostName} {x y x' y' : SideState} {offered offered' : ℕ → Base} {Present Present' : Base → Type 0} {sent : List Message}
+pub kept_as : {n k n' k' : HostName} {x y x' y' : SideState} {offered offered' : ℕ → Snapshot} {Present Present' : Snapshot → Type 0} {sent : List Message}
     → PairInvariant n k x y offered Present sent → Sides x' y' offered' Present' → Carries n k n' k' x y x' y' offered offered'
     → PairInvariant n' k' x' y' offered' Present' sent
 kept_as old sides carries = record { sides = sides; each = λ m is. carried carries m (old.each m is); apart = old.apart }
 
-pub kept_quiet : {n k n' k' : HostName} {x y x' y' : SideState} {offered offered' : ℕ → Base} {Present Present' : Base → Type 0} {sent : List Message}
+pub kept_quiet : {n k n' k' : HostName} {x y x' y' : SideState} {offered offered' : ℕ → Snapshot} {Present Present' : Snapshot → Type 0} {sent : List Message}
     → PairInvariant n k x y offered Present sent → Sides x' y' offered' Present' → Carries n k n' k' x y x' y' offered offered'
     → PairInvariant n' k' x' y' offered' Present' (sent ++ [])
 kept_quiet old sides carries = rw append-nil (kept_as old sides carries)
 
 -- a message is sent
-pub kept_sent : {n k n' k' : HostName} {x y x' y' : SideState} {offered offered' : ℕ → Base} {Present Present' : Base → Type 0} {sent : List Message}
+pub kept_sent : {n k n' k' : HostName} {x y x' y' : SideState} {offered offered' : ℕ → Snapshot} {Present Present' : Snapshot → Type 0} {sent : List Message}
     → PairInvariant n k x y offered Present sent → Sides x' y' offered' Present' → Carries n k n' k' x y x' y' offered offered'
     → (m : Message) → IsConsistent n' k' x' y' offered' m
     → ((d : Message) → IsConsistent n k x y offered d → Clash m.body d.body → m.epoch ≢ d.epoch)

@@ -1,12 +1,12 @@
 -- What leaves the history as it was.
 use Rattle.std.proofs.Common.{◌≡◌, ℕ, true, false, [], ◌∷◌, ◌++◌, Option, Some, None, refl, ◌∙◌, ap}
 use Rattle.std.proofs.lemmas.Bool.{cond-true, cond-false}
-use Rattle.crb_history.specs.Base.{Base}
+use Rattle.crb_history.specs.Snapshot.{Snapshot}
 use Rattle.vt_script.specs.declared.event.Event.{Event}
 use Rattle.vt_script.specs.declared.event.Event.TheVariants as line
 use Rattle.vt_script.specs.declared.reply.Reply.{Reply}
-use Rattle.move_codec.specs.declared.names.HostName.{HostName}
-use Rattle.move_codec.specs.declared.names.HostName.TheVariants.{A, B}
+use Rattle.vt_base.specs.declared.types.HostName.{HostName}
+use Rattle.vt_base.specs.declared.types.HostName.TheVariants.{A, B}
 use Rattle.move_codec.specs.declared.message.Message.{Message}
 use Rattle.move_core.specs.declared.stage.MoveStage.{MoveStage}
 use Rattle.move_core.specs.declared.stage.MoveStage.TheVariants as stage
@@ -15,7 +15,7 @@ use Rattle.move_core.specs.declared.side.Side.TheVariants.{Offering}
 use Rattle.vt_script.specs.declared.event.Event.TheVariants.{Offer, Deliver, GiveUp, Again, Show}
 use Rattle.vt_script.specs.declared.reply.Reply.TheVariants as reply
 use Rattle.two_hosts.specs.Hosts.{TwoHosts, hosts_after, stage_at, host_where, running_host, is_offering, is_prepared, message_at, after_delivery, after_offer, after_give_up, after_again, guest_line_on, guest_line_on_any, after_line, after_exchange}
-use Rattle.crb_history.specs.Replies.{Transcript}
+use Rattle.vt_transcript.specs.Replies.{Transcript}
 use Rattle.two_hosts.specs.Replies.{InTurn}
 use Rattle.two_hosts.specs.Invariant.{HostsInvariant, IsPassive}
 use Rattle.two_hosts.specs.Laws.{IsMoveLine, StaysOffering, IsOffering}
@@ -23,7 +23,7 @@ use Rattle.two_hosts.proofs.InvariantKept.{run_kept}
 use Rattle.two_hosts.proofs.RunningSets.{shown, alone, idle}
 use Rattle.two_hosts.proofs.Shifts.{running_on, runs_on, active_on}
 
-offer_history : (b : Base) (t : TwoHosts) (found : Option HostName) (q : Reply) → (after_offer b t found q).history ≡ t.history
+offer_history : (b : Snapshot) (t : TwoHosts) (found : Option HostName) (q : Reply) → (after_offer b t found q).history ≡ t.history
 offer_history b t None q = refl
 offer_history b t (Some n) (reply.Offered e m) = refl
 offer_history b t (Some n) _ = refl
@@ -41,7 +41,7 @@ again_history t None = refl
 again_history t (Some n) = refl
 
 -- a line of a move
-pub moves_leave : (b : Base) (piece : ℕ) (t : TwoHosts) (l : Event) (q : Reply) → IsMoveLine l → (after_line b piece t l q).history ≡ t.history
+pub moves_leave : (b : Snapshot) (piece : ℕ) (t : TwoHosts) (l : Event) (q : Reply) → IsMoveLine l → (after_line b piece t l q).history ≡ t.history
 moves_leave b piece t (line.Access a) q is = absurd is
 moves_leave b piece t line.Work q is = absurd is
 moves_leave b piece t line.Ask q is = absurd is
@@ -55,13 +55,13 @@ moves_leave b piece t (Show k) q is = refl
 
 -- ---- where no host runs
 
-fault_history : (b : Base) (t : TwoHosts) (n host : HostName) (call : ℕ) (g : Reply) → (guest_line_on b t n (line.Fail host call) g).history ≡ t.history
+fault_history : (b : Snapshot) (t : TwoHosts) (n host : HostName) (call : ℕ) (g : Reply) → (guest_line_on b t n (line.Fail host call) g).history ≡ t.history
 fault_history b t n host call g = refl
 
-nothing_on : (b : Base) (t : TwoHosts) (e : Event) (g : Reply) (found : Option HostName) → found ≡ None → (guest_line_on_any b t found e g).history ≡ t.history
+nothing_on : (b : Snapshot) (t : TwoHosts) (e : Event) (g : Reply) (found : Option HostName) → found ≡ None → (guest_line_on_any b t found e g).history ≡ t.history
 nothing_on b t e g found none = ap (λ (k : Option HostName). (guest_line_on_any b t k e g).history) none
 
-pub stopped_leaves : (b : Base) (piece : ℕ) (t : TwoHosts) (l : Event) (q : Reply) → running_host t ≡ None → (after_line b piece t l q).history ≡ t.history
+pub stopped_leaves : (b : Snapshot) (piece : ℕ) (t : TwoHosts) (l : Event) (q : Reply) → running_host t ≡ None → (after_line b piece t l q).history ≡ t.history
 stopped_leaves b piece t (line.Access a) q none = nothing_on b t (line.Access a) q (running_host t) none
 stopped_leaves b piece t line.Work q none = nothing_on b t line.Work q (running_host t) none
 stopped_leaves b piece t line.Ask q none = nothing_on b t line.Ask q (running_host t) none
@@ -73,7 +73,7 @@ stopped_leaves b piece t GiveUp q none = give_up_history t (host_where is_offeri
 stopped_leaves b piece t Again q none = again_history t (host_where is_prepared t)
 stopped_leaves b piece t (Show k) q none = refl
 
-exchange_leaves : (b : Base) (piece : ℕ) (t : TwoHosts) (l : Option Event) (q : Reply) → running_host t ≡ None → (after_exchange b piece t l q).history ≡ t.history
+exchange_leaves : (b : Snapshot) (piece : ℕ) (t : TwoHosts) (l : Option Event) (q : Reply) → running_host t ≡ None → (after_exchange b piece t l q).history ≡ t.history
 exchange_leaves b piece t None q none = refl
 exchange_leaves b piece t (Some l) q none = stopped_leaves b piece t l q none
 
@@ -81,12 +81,12 @@ exchange_leaves b piece t (Some l) q none = stopped_leaves b piece t l q none
 none_runs : (t : TwoHosts) → is_running t.a.side.stage ≡ false → is_running t.b.side.stage ≡ false → running_host t ≡ None
 none_runs t a b = cond-false (is_running t.a.side.stage) _ _ a ∙ cond-false (is_running t.b.side.stage) _ _ b
 
-offering_stops : (b : Base) (t : TwoHosts) (n : HostName) (e : ℕ) → HostsInvariant b t → shown t n ≡ Offering e → running_host t ≡ None
+offering_stops : (b : Snapshot) (t : TwoHosts) (n : HostName) (e : ℕ) → HostsInvariant b t → shown t n ≡ Offering e → running_host t ≡ None
 offering_stops b t A e kept is = none_runs t (running_on t.a.side.stage ∙ ap runs_on is) (running_on t.b.side.stage ∙ idle (shown t B) (alone b t kept A (ap active_on is)))
 offering_stops b t B e kept is = none_runs t (running_on t.a.side.stage ∙ idle (shown t A) (alone b t kept B (ap active_on is))) (running_on t.b.side.stage ∙ ap runs_on is)
 
 -- while a host offers, the history stays
-pub offering_leaves : (b : Base) (piece : ℕ) (n : HostName) (e : ℕ) (more t : Transcript) → InTurn b piece (more ++ t) → StaysOffering b piece n e more t
+pub offering_leaves : (b : Snapshot) (piece : ℕ) (n : HostName) (e : ℕ) (more t : Transcript) → InTurn b piece (more ++ t) → StaysOffering b piece n e more t
     → (hosts_after b piece (more ++ t)).history ≡ (hosts_after b piece t).history
 offering_leaves b piece n e [] t in_turn stays = refl
 offering_leaves b piece n e (x ∷ more) t in_turn stays =
@@ -111,7 +111,7 @@ passive_at (stage.Prepared d) is = refl
 passive_at stage.Running is = absurd is
 passive_at (stage.Offering d totals) is = absurd is
 
-pub offering_host : (b : Base) (t : TwoHosts) (n : HostName) (e : ℕ) → HostsInvariant b t → IsOffering t n e → host_where is_offering t ≡ Some n
+pub offering_host : (b : Snapshot) (t : TwoHosts) (n : HostName) (e : ℕ) → HostsInvariant b t → IsOffering t n e → host_where is_offering t ≡ Some n
 offering_host b t A e kept is = cond-true (is_offering t.a.side.stage) _ _ (offers_at t.a.side.stage e is)
 offering_host b t B e kept is = cond-false (is_offering t.a.side.stage) _ _ (passive_at t.a.side.stage (alone b t kept B (ap active_on is))) ∙ cond-true (is_offering t.b.side.stage) _ _ (offers_at t.b.side.stage e is)
 
@@ -119,7 +119,7 @@ runs_again : (t : TwoHosts) (n : HostName) → is_running (stage_at (after_give_
 runs_again t A = refl
 runs_again t B = refl
 
-pub given_up : (b : Base) (piece : ℕ) (n : HostName) (e : ℕ) (more t : Transcript) (q : Reply) → InTurn b piece (more ++ t) → StaysOffering b piece n e more t → IsOffering (hosts_after b piece (more ++ t)) n e
+pub given_up : (b : Snapshot) (piece : ℕ) (n : HostName) (e : ℕ) (more t : Transcript) (q : Reply) → InTurn b piece (more ++ t) → StaysOffering b piece n e more t → IsOffering (hosts_after b piece (more ++ t)) n e
     → ((after_line b piece (hosts_after b piece (more ++ t)) GiveUp q).history ≡ (hosts_after b piece t).history)
     × (is_running (stage_at (after_line b piece (hosts_after b piece (more ++ t)) GiveUp q) n) ≡ true)
 given_up b piece n e more t q in_turn stays is = (

@@ -6,11 +6,11 @@ use Rattle.vt_script.specs.declared.event.Event.{Event}
 use Rattle.vt_script.specs.declared.event.Event.TheVariants as line
 use Rattle.vt_script.specs.declared.reply.Reply.{Reply}
 use Rattle.vt_script.specs.declared.reply.Reply.TheVariants as reply
-use Rattle.crb_history.specs.Base.{Base}
+use Rattle.crb_history.specs.Snapshot.{Snapshot}
 use Rattle.crb_history.specs.Event.{History}
-use Rattle.crb_history.specs.Device.{phase_of, stage_of, Stage}
-use Rattle.crb_history.specs.Device.Stage.{Waiting, Claimed, HasSent, HasRun}
-use Rattle.crb_history.specs.Replies.{Answers, Turning, turn, turn_at, turning_of, has_rest, is_under_way, reset_reply}
+use Rattle.crb_history.specs.Device.{phase_of, stage_of, JobStage}
+use Rattle.crb_history.specs.Device.JobStage.{Waiting, Claimed, HasSent, HasHeader}
+use Rattle.vt_transcript.specs.Replies.{IsReplyTo, WorkerReplyInputs, worker_reply, worker_reply_at, worker_reply_inputs, has_rest, is_under_way, reset_reply}
 
 -- a reply of a device over a TPM
 abbrev pub IsOfDevice : Reply → Type 0
@@ -30,19 +30,19 @@ IsOfDevice reply.NotYet = Unit {0}
 IsOfDevice reply.Reset = Unit {0}
 IsOfDevice _ = ⊥
 
-turned_at : (s : Stage) (x : Turning) (fails : ℕ → Bool) → IsOfDevice (turn_at s x fails)
+turned_at : (s : JobStage) (x : WorkerReplyInputs) (fails : ℕ → Bool) → IsOfDevice (worker_reply_at s x fails)
 turned_at Waiting x fails = tt
 turned_at Claimed x fails = cond_both x.held (reply.Cancelled x.number) _ IsOfDevice (λ yes. tt) (λ no. cond_both (fails 1) (reply.Lost x.number) (reply.Sent x.number) IsOfDevice (λ yes. tt) (λ no. tt))
 turned_at HasSent x fails = cond_both (fails 1) (reply.Lost x.number) (reply.Exec x.number) IsOfDevice (λ yes. tt) (λ no. tt)
-turned_at HasRun x fails = cond_both x.in_time (reply.Cancelled x.number) _ IsOfDevice (λ yes. tt) (λ no. cond_both (has_rest x.size && fails 1) (reply.Lost x.number) (reply.Done x.number) IsOfDevice (λ yes. tt) (λ no. tt))
+turned_at HasHeader x fails = cond_both x.in_time (reply.Cancelled x.number) _ IsOfDevice (λ yes. tt) (λ no. cond_both (has_rest x.size && fails 1) (reply.Lost x.number) (reply.Done x.number) IsOfDevice (λ yes. tt) (λ no. tt))
 
-turned : (b : Base) (p : History) (fails : ℕ → Bool) → IsOfDevice (turn b p fails)
-turned b p fails = cond_both (is_executing (phase_of b p)) (turn_at (stage_of b p) (turning_of b p) fails) reply.Idle IsOfDevice (λ yes. turned_at (stage_of b p) (turning_of b p) fails) (λ no. tt)
+turned : (b : Snapshot) (p : History) (fails : ℕ → Bool) → IsOfDevice (worker_reply b p fails)
+turned b p fails = cond_both (is_executing (phase_of b p)) (worker_reply_at (stage_of b p) (worker_reply_inputs b p) fails) reply.Idle IsOfDevice (λ yes. turned_at (stage_of b p) (worker_reply_inputs b p) fails) (λ no. tt)
 
-was_reset : (b : Base) (p : History) (fails : ℕ → Bool) → IsOfDevice (reset_reply b p fails)
+was_reset : (b : Snapshot) (p : History) (fails : ℕ → Bool) → IsOfDevice (reset_reply b p fails)
 was_reset b p fails = cond_both (is_lost (phase_of b p)) reply.FailedDevice _ IsOfDevice (λ yes. tt) (λ no. cond_both (is_under_way b p) reply.NotYet _ IsOfDevice (λ yes. tt) (λ no. cond_both (fails 2) reply.Link reply.Reset IsOfDevice (λ yes. tt) (λ no. tt)))
 
-pub replies_of_device : (b : Base) (p : History) (fails : ℕ → Bool) (e : Event) (q : Reply) → Answers b p fails (Some e) q → IsOfDevice q
+pub replies_of_device : (b : Snapshot) (p : History) (fails : ℕ → Bool) (e : Event) (q : Reply) → IsReplyTo b p fails (Some e) q → IsOfDevice q
 replies_of_device b p fails (line.Access a) (reply.Value value size) is = tt
 replies_of_device b p fails (line.Access a) reply.Accepted is = tt
 replies_of_device b p fails (line.Access a) _ is = absurd is

@@ -3,9 +3,9 @@ use Rattle.std.proofs.Common.{◌≡◌, ◌≢◌, ℕ, ◌+◌, ◌≤◌, ◌
 use Rattle.std.specs.Prelude.{nat_lt, ◌==◌}
 use Rattle.std.proofs.lemmas.Bool.{cond_both, eqb-true, ltb-true, eq-eqb, ne_eqb, cond-true, cond-false}
 use Rattle.std.proofs.lemmas.List.{take_min, length-take}
-use Rattle.state_blobs.specs.Texts.{slice}
-use Rattle.crb_history.specs.Base.{Base}
-use Rattle.move_codec.specs.declared.names.HostName.{HostName}
+use Rattle.state_blobs.specs.Encodings.{slice}
+use Rattle.crb_history.specs.Snapshot.{Snapshot}
+use Rattle.vt_base.specs.declared.types.HostName.{HostName}
 use Rattle.move_codec.specs.declared.names.Part.{Part}
 use Rattle.move_codec.specs.declared.message.Message.{Message}
 use Rattle.move_codec.specs.declared.message.Body.{Body}
@@ -22,14 +22,14 @@ use Rattle.two_hosts.specs.Invariant.{shown_side, IsPassive, MatchesOffer, Sides
 use Rattle.two_hosts.proofs.Frames.{Carries, kept_quiet, kept_sent}
 
 -- what is kept after an answer of the holder: it still holds, or the other host does
-pub record HolderLed (n k : HostName) (y : SideState) (offered : ℕ → Base) (Present : Base → Type 0) (sent : List Message) (after : Outcome) : Type 0 where
+pub record HolderLed (n k : HostName) (y : SideState) (offered : ℕ → Snapshot) (Present : Snapshot → Type 0) (sent : List Message) (after : Outcome) : Type 0 where
   pub led : PairInvariant n k after.side y offered Present (sent ++ message_in after.answer) ⊎ PairInvariant k n y after.side offered Present (sent ++ message_in after.answer)
 
 -- a slice as long as it is
 pub slice_again : (xs : List ℕ) (offset size : ℕ) → slice xs offset size ≡ slice xs offset (length (slice xs offset size))
 slice_again xs offset size = sym (ap (λ n. take n (drop offset xs)) (length-take size (drop offset xs)) ∙ take_min size (drop offset xs))
 
-module _ (n k : HostName) (x y : SideState) (offered : ℕ → Base) (Present : Base → Type 0) (sent : List Message) (old : PairInvariant n k x y offered Present sent) (piece : ℕ) (fails : Bool) where
+module _ (n k : HostName) (x y : SideState) (offered : ℕ → Snapshot) (Present : Snapshot → Type 0) (sent : List Message) (old : PairInvariant n k x y offered Present sent) (piece : ℕ) (fails : Bool) where
   abbrev r : DeliveryContext
   r = record { me = n; piece = piece; offered = offered; fails = fails }
 
@@ -161,7 +161,7 @@ module _ (n k : HostName) (x y : SideState) (offered : ℕ → Base) (Present : 
   message_led e body.Abort le says = abort_led x.stage e refl says
   message_led e (body.Refuse why value) le says = refuse_led x.stage e refl
 
-module _ (n k : HostName) (x y : SideState) (offered : ℕ → Base) (Present : Base → Type 0) (sent : List Message) (old : PairInvariant n k x y offered Present sent) where
+module _ (n k : HostName) (x y : SideState) (offered : ℕ → Snapshot) (Present : Snapshot → Type 0) (sent : List Message) (old : PairInvariant n k x y offered Present sent) where
   -- the host that offers gives up
   pub given_up : (e : ℕ) (totals : List ℕ) → x.stage ≡ stage.Offering e totals → PairInvariant n k (at_stage x stage.Running) y offered Present (sent ++ message_from n e body.Abort ∷ [])
   given_up e totals is =
@@ -189,14 +189,14 @@ module _ (n k : HostName) (x y : SideState) (offered : ℕ → Base) (Present : 
       kept_sent old old.sides (unchanged n k x y offered Present sent old 0 false) _ (record { epoch = omega arith; says = λ own wrong. absurd (let both : Prepared e ≡ Offering e = sym at ∙ wrong in cc) }) (λ d f clash. absurd clash)
 
   -- a running holder goes on in its history: what it has is looked at again once it offers
-  pub works_on : (New : Base → Type 0) → x.stage ≡ stage.Running → PairInvariant n k x y offered New sent
+  pub works_on : (New : Snapshot → Type 0) → x.stage ≡ stage.Running → PairInvariant n k x y offered New sent
   works_on New is = record {
     sides = record { holds = old.sides.holds; order = old.sides.order; holder = old.sides.holder; rest = old.sides.rest; same = λ not. let both : _ = sym not ∙ ap is_running is in absurd cc };
     each = old.each;
     apart = old.apart;
   }
 
-  module _ (new : Base) where
+  module _ (new : Snapshot) where
     noted_before : (e : ℕ) → e ≤ x.top → with_offer offered (x.top + 1) new e ≡ offered e
     noted_before e le = cond-false (e == x.top + 1) new (offered e) (ne_eqb e (x.top + 1) (λ same. omega arith))
 

@@ -3,8 +3,8 @@ use Rattle.std.proofs.Common.{◌≡◌, ℕ, zero, suc, ◌+◌, ◌-◌, ◌�
 use Rattle.std.specs.Prelude.{slice_get, nat_lt}
 use Rattle.std.proofs.lemmas.Bool.{cond-true, lt-ltb}
 use Rattle.std.proofs.lemmas.List.{length_push}
-use Rattle.move_codec.specs.declared.names.HostName.{HostName}
-use Rattle.move_codec.specs.declared.names.HostName.TheVariants.{A, B}
+use Rattle.vt_base.specs.declared.types.HostName.{HostName}
+use Rattle.vt_base.specs.declared.types.HostName.TheVariants.{A, B}
 use Rattle.move_codec.specs.declared.message.Message.{Message}
 use Rattle.move_codec.specs.declared.message.Body.{Body}
 use Rattle.move_core.specs.declared.answers.Delivered.{Delivered}
@@ -14,13 +14,13 @@ use Rattle.vt_script.specs.declared.reply.Reply.{Reply}
 use Rattle.vt_script.specs.declared.reply.Reply.TheVariants as reply
 use Rattle.two_hosts.specs.Deliveries.{SideState, Outcome, delivered, calls_of_delivery}
 use Rattle.two_hosts.specs.Hosts.{TwoHosts, HostState, host_of, with_outcome, counted, context_for, message_at, next_number, bag_size, fails_at, after_message, after_delivery}
-use Rattle.crb_history.specs.Replies.{is_fault}
+use Rattle.vt_transcript.specs.Replies.{is_fault}
 use Rattle.two_hosts.specs.Replies.{deliver_reply, delivery_reply, meets_fault}
 use Rattle.two_hosts.specs.Invariant.{side_at}
 
 -- no call is to fail on the wires of either host
-abbrev pub Works : TwoHosts → Type 0
-Works w = (n : HostName) → (host_of w n).injected_fault ≡ None
+abbrev pub WorkerStep : TwoHosts → Type 0
+WorkerStep w = (n : HostName) → (host_of w n).injected_fault ≡ None
 
 -- the message that was sent last
 pub record Last (w : TwoHosts) (count : ℕ) (m : Message) : Type 0 where
@@ -50,10 +50,10 @@ and_never true d is = is
 and_never false d is = refl
 
 -- the injected fault doesn't occur
-unmet : (piece : ℕ) (w : TwoHosts) (m : Message) → Works w → meets_fault piece w m ≡ false
+unmet : (piece : ℕ) (w : TwoHosts) (m : Message) → WorkerStep w → meets_fault piece w m ≡ false
 unmet piece w m works =
     let calls = calls_of_delivery (context_for piece w m.to false) (host_of w m.to).side m.epoch m.body in
-    and_never (nat_lt 0 calls) (fails_at (host_of w m.to) calls) (ap (λ order. Rattle.crb_history.specs.Replies.reaches order ((host_of w m.to).calls + calls)) (works m.to))
+    and_never (nat_lt 0 calls) (fails_at (host_of w m.to) calls) (ap (λ order. Rattle.vt_transcript.specs.Replies.reaches order ((host_of w m.to).calls + calls)) (works m.to))
 
 module _ (piece : ℕ) where
   abbrev pub last_reply : TwoHosts → Reply
@@ -74,13 +74,13 @@ module _ (piece : ℕ) where
   abbrev Answers : TwoHosts → Message → SideState → Delivered → Type 0
   Answers w m g a = delivered (context_for piece w m.to false) (side_at w m.to) m.epoch m.body ≡ record { side = g; answer = a }
 
-  replied : (w : TwoHosts) (count : ℕ) (m : Message) (g : SideState) (a : Delivered) → Last w count m → count ≤ bag_size → Works w → Answers w m g a → last_reply w ≡ delivery_reply w.sent a
+  replied : (w : TwoHosts) (count : ℕ) (m : Message) (g : SideState) (a : Delivered) → Last w count m → count ≤ bag_size → WorkerStep w → Answers w m g a → last_reply w ≡ delivery_reply w.sent a
   replied w count m g a last room works answers =
       ap (deliver_reply piece w) (last_found w count m last room)
       ∙ ap (λ fails. delivery_reply w.sent (delivered (context_for piece w m.to fails) (side_at w m.to) m.epoch m.body).answer) (unmet piece w m works)
       ∙ ap (λ (o : Outcome). delivery_reply w.sent o.answer) answers
 
-  led : (w : TwoHosts) (count : ℕ) (m : Message) (g : SideState) (a : Delivered) (q : Reply) → Last w count m → count ≤ bag_size → Works w → Answers w m g a → last_reply w ≡ q → is_fault q ≡ false
+  led : (w : TwoHosts) (count : ℕ) (m : Message) (g : SideState) (a : Delivered) (q : Reply) → Last w count m → count ≤ bag_size → WorkerStep w → Answers w m g a → last_reply w ≡ q → is_fault q ≡ false
       → turn_last w ≡ with_outcome w m.to (counted q (calls_of_delivery (context_for piece w m.to false) (side_at w m.to) m.epoch m.body) (host_of w m.to)) (record { side = g; answer = a })
   led w count m g a q last room works answers is clean =
       ap (λ found. after_delivery piece w found (last_reply w)) (last_found w count m last room)
@@ -94,7 +94,7 @@ module _ (piece : ℕ) where
     pub acted : side_at (turn_last w) to ≡ g
     pub still : side_at (turn_last w) (other to) ≡ side_at w (other to)
     pub offered : (turn_last w).offered ≡ w.offered
-    pub works : Works (turn_last w)
+    pub works : WorkerStep (turn_last w)
     pub last : Last (turn_last w) (count + 1) m
 
   outcome_acted : (w : TwoHosts) (n : HostName) (h : HostState) (o : Outcome) → side_at (with_outcome w n h o) n ≡ o.side
@@ -105,7 +105,7 @@ module _ (piece : ℕ) where
   outcome_still w A h o = refl
   outcome_still w B h o = refl
 
-  outcome_works : (w : TwoHosts) (n : HostName) (h : HostState) (o : Outcome) → h.injected_fault ≡ None → Works w → Works (with_outcome w n h o)
+  outcome_works : (w : TwoHosts) (n : HostName) (h : HostState) (o : Outcome) → h.injected_fault ≡ None → WorkerStep w → WorkerStep (with_outcome w n h o)
   outcome_works w A h o none works A = none
   outcome_works w A h o none works B = works B
   outcome_works w B h o none works A = works A
@@ -118,14 +118,14 @@ module _ (piece : ℕ) where
   abbrev sends : SideState → Message → Outcome
   sends g m = record { side = g; answer = delivers.Sent m }
 
-  pub turned : (w : TwoHosts) (count : ℕ) (to : HostName) (e : ℕ) (b : Body) (g : SideState) (m : Message) → Last w count (record { to = to; epoch = e; body = b }) → count < bag_size → Works w
+  pub turned : (w : TwoHosts) (count : ℕ) (to : HostName) (e : ℕ) (b : Body) (g : SideState) (m : Message) → Last w count (record { to = to; epoch = e; body = b }) → count < bag_size → WorkerStep w
       → delivered (context_for piece w to false) (side_at w to) e b ≡ record { side = g; answer = delivers.Sent m } → Turned w to g count m
   turned w count to e b g m last room works answers = record {
     replies = says;
     acted = ap (λ (t : TwoHosts). side_at t to) new ∙ outcome_acted w to (receiver w count to e b) (sends g m);
     still = ap (λ (t : TwoHosts). side_at t (other to)) new ∙ outcome_still w to (receiver w count to e b) (sends g m);
     offered = ap (λ (t : TwoHosts). t.offered) new;
-    works = subst Works (sym new) (outcome_works w to (receiver w count to e b) (sends g m) (works to) works);
+    works = subst WorkerStep (sym new) (outcome_works w to (receiver w count to e b) (sends g m) (works to) works);
     last = last_pushed (turn_last w) w.sent count m (ap (λ (t : TwoHosts). t.sent) new) last.amount;
   }
     where
@@ -143,7 +143,7 @@ module _ (piece : ℕ) where
     pub replies : last_reply w ≡ reply.Running
     pub acted : side_at (turn_last w) to ≡ g
 
-  pub ran : (w : TwoHosts) (count : ℕ) (to : HostName) (e : ℕ) (b : Body) (g : SideState) → Last w count (record { to = to; epoch = e; body = b }) → count ≤ bag_size → Works w
+  pub ran : (w : TwoHosts) (count : ℕ) (to : HostName) (e : ℕ) (b : Body) (g : SideState) → Last w count (record { to = to; epoch = e; body = b }) → count ≤ bag_size → WorkerStep w
       → delivered (context_for piece w to false) (side_at w to) e b ≡ record { side = g; answer = delivers.Runs } → Ran w to g
   ran w count to e b g last room works answers =
       let says : last_reply w ≡ reply.Running = replied w count (record { to = to; epoch = e; body = b }) g delivers.Runs last room works answers in

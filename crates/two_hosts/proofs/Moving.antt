@@ -3,9 +3,9 @@ use Rattle.std.proofs.Common.{◌≡◌, ℕ, zero, suc, ◌+◌, ◌-◌, ◌*�
 use Rattle.std.specs.Prelude.{nat_lt, ◌==◌}
 use Rattle.std.proofs.lemmas.Bool.{cond-true, cond-false, eq-eqb, lt-ltb, le-ltb, le-leb, and_from, cases_lt}
 use Rattle.std.proofs.lemmas.List.{length-take, length-drop}
-use Rattle.state_blobs.specs.Texts.{slice}
-use Rattle.crb_history.specs.Base.{Base}
-use Rattle.move_codec.specs.declared.names.HostName.{HostName}
+use Rattle.state_blobs.specs.Encodings.{slice}
+use Rattle.crb_history.specs.Snapshot.{Snapshot}
+use Rattle.vt_base.specs.declared.types.HostName.{HostName}
 use Rattle.move_codec.specs.declared.names.Part.{Part}
 use Rattle.move_codec.specs.declared.message.Message.{Message}
 use Rattle.move_codec.specs.declared.message.Body.{Body}
@@ -21,34 +21,34 @@ use Rattle.two_hosts.specs.Hosts.{TwoHosts, context_for, bag_size}
 use Rattle.two_hosts.specs.Invariant.{side_at}
 use Rattle.two_hosts.proofs.RunningSets.{twice_other}
 use Rattle.two_hosts.proofs.Counts.{size_of, total_is, left_of, left_some, left_less, left_next, left_last}
-use Rattle.two_hosts.proofs.LastTurns.{Works, Last, Turned, last_reply, turn_last, often, often_more, turned}
+use Rattle.two_hosts.proofs.LastTurns.{WorkerStep, Last, Turned, last_reply, turn_last, often, often_more, turned}
 
 -- a host that fills
-abbrev pub fills : ℕ → ℕ → Base → Part → ℕ → SideState
+abbrev pub fills : ℕ → ℕ → Snapshot → Part → ℕ → SideState
 fills top e v p place = record { stage = stage.Filling e (totals_of v) p place; top = top }
 
 -- a move of these values, in which the last message is this one
-pub record Moving (w : TwoHosts) (n : HostName) (e : ℕ) (v : Base) (p : Part) (place count : ℕ) (to : HostName) (b : Body) : Type 0 where
+pub record Moving (w : TwoHosts) (n : HostName) (e : ℕ) (v : Snapshot) (p : Part) (place count : ℕ) (to : HostName) (b : Body) : Type 0 where
   pub source : (side_at w n).stage ≡ stage.Offering e (totals_of v)
   pub values : w.offered e ≡ v
   pub top : ℕ
   pub target : side_at w (other n) ≡ fills top e v p place
-  pub works : Works w
+  pub works : WorkerStep w
   pub last : Last w count (record { to = to; epoch = e; body = b })
 
 -- the target is prepared, and says so
-pub record Finished (w : TwoHosts) (n : HostName) (e : ℕ) (v : Base) (count : ℕ) : Type 0 where
+pub record Finished (w : TwoHosts) (n : HostName) (e : ℕ) (v : Snapshot) (count : ℕ) : Type 0 where
   pub source : (side_at w n).stage ≡ stage.Offering e (totals_of v)
   pub target : (side_at w (other n)).stage ≡ stage.Prepared e
-  pub works : Works w
+  pub works : WorkerStep w
   pub last : Last w count (record { to = n; epoch = e; body = body.Prepared })
 
 -- the target takes a piece: it needs the next one, or is prepared
-pub data Onward (w : TwoHosts) (n : HostName) (e : ℕ) (v : Base) (p : Part) (place count size : ℕ) : Type 0 where
+pub data Onward (w : TwoHosts) (n : HostName) (e : ℕ) (v : Snapshot) (p : Part) (place count size : ℕ) : Type 0 where
   needs : (q : Part) (next : ℕ) → Moving w n e v q next count n (body.Need q next) → next < size_of v q → left_of size (size_of v) p place ≡ left_of size (size_of v) q next + 1 → Onward w n e v p place count size
   ends : Finished w n e v count → left_of size (size_of v) p place ≡ 1 → Onward w n e v p place count size
 
-module _ (piece : ℕ) (w : TwoHosts) (n : HostName) (e : ℕ) (v : Base) (p : Part) (place count : ℕ) (room : count < bag_size) (more : place < size_of v p) where
+module _ (piece : ℕ) (w : TwoHosts) (n : HostName) (e : ℕ) (v : Snapshot) (p : Part) (place count : ℕ) (room : count < bag_size) (more : place < size_of v p) where
   abbrev new : TwoHosts
   new = turn_last piece w
 
@@ -64,7 +64,7 @@ module _ (piece : ℕ) (w : TwoHosts) (n : HostName) (e : ℕ) (v : Base) (p : P
     gives_piece : delivered (context_for piece w n false) (side_at w n) e (body.Need p place) ≡ record { side = side_at w n; answer = Sent (message_from n e (body.Piece p place bytes)) }
     gives_piece = ap (λ g. on_need (context_for piece w n false) (side_at w n) g e p place) m.source
         ∙ cond-true (e == e && nat_lt place (total_of (totals_of v) p)) _ _ within
-        ∙ ap (λ (u : Base). record { side = side_at w n; answer = Sent (message_from n e (body.Piece p place (slice (part_bytes u p) place piece))) }) m.values
+        ∙ ap (λ (u : Snapshot). record { side = side_at w n; answer = Sent (message_from n e (body.Piece p place (slice (part_bytes u p) place piece))) }) m.values
 
     pub needed : Turned piece w n (side_at w n) count (message_from n e (body.Piece p place bytes))
     needed = turned piece w count n e (body.Need p place) (side_at w n) (message_from n e (body.Piece p place bytes)) m.last room m.works gives_piece
@@ -154,7 +154,7 @@ abbrev pub AllSent : ℕ → TwoHosts → ℕ → ℕ → Type 0
 AllSent piece w count turns = (j : ℕ) → j < turns → last_reply piece (often piece j w) ≡ reply.SentMessage (count + 1 + j)
 
 -- so many deliveries leave the target prepared
-pub record Ended (piece : ℕ) (w : TwoHosts) (n : HostName) (e : ℕ) (v : Base) (count turns : ℕ) : Type 0 where
+pub record Ended (piece : ℕ) (w : TwoHosts) (n : HostName) (e : ℕ) (v : Snapshot) (count turns : ℕ) : Type 0 where
   pub finished : Finished (often piece turns w) n e v (count + turns)
   pub sent : AllSent piece w count turns
 
@@ -167,7 +167,7 @@ two_more piece w count turns one two rest (suc (suc j)) low =
     let same : count + 1 + 1 + 1 + j ≡ count + 1 + suc (suc j) = omega arith in
     ap (last_reply piece) (often_more piece (suc j) w ∙ often_more piece j (turn_last piece w)) ∙ rest j (omega arith) ∙ ap reply.SentMessage same
 
-module _ (piece : ℕ) (n : HostName) (e : ℕ) (v : Base) (pos : 0 < piece) (good : (q : Part) → 0 < size_of v q) where
+module _ (piece : ℕ) (n : HostName) (e : ℕ) (v : Snapshot) (pos : 0 < piece) (good : (q : Part) → 0 < size_of v q) where
   onward_on : (k : ℕ) (w : TwoHosts) (p : Part) (place count : ℕ) → last_reply piece w ≡ reply.SentMessage (count + 1) → last_reply piece (turn_last piece w) ≡ reply.SentMessage (count + 1 + 1)
       → ((q : Part) (next : ℕ) → Moving (turn_last piece (turn_last piece w)) n e v q next (count + 1 + 1) n (body.Need q next) → next < size_of v q → left_of piece (size_of v) q next ≡ k → Ended piece (turn_last piece (turn_last piece w)) n e v (count + 1 + 1) (2 * k))
       → left_of piece (size_of v) p place ≡ suc k → Onward (turn_last piece (turn_last piece w)) n e v p place (count + 1 + 1) piece

@@ -5,11 +5,11 @@ use Rattle.crb_regs.specs.Access.{Access}
 use Rattle.vt_script.specs.declared.event.Event.{Event}
 use Rattle.vt_script.specs.declared.event.Event.TheVariants as line
 use Rattle.vt_script.specs.declared.reply.Reply.{Reply}
-use Rattle.crb_history.specs.Base.{Base}
+use Rattle.crb_history.specs.Snapshot.{Snapshot}
 use Rattle.crb_history.specs.Event.{History}
 use Rattle.crb_history.specs.Legal.{Legal}
-use Rattle.crb_history.specs.Replies.{Answers, turn, ask_reply, reset_reply, with_event, Exchange, line_of, Transcript}
-use Rattle.move_codec.specs.declared.names.HostName.{HostName}
+use Rattle.vt_transcript.specs.Replies.{IsReplyTo, worker_reply, ask_reply, reset_reply, with_event, Exchange, line_of, Transcript}
+use Rattle.vt_base.specs.declared.types.HostName.{HostName}
 use Rattle.move_codec.specs.declared.message.Message.{Message}
 use Rattle.vt_script.specs.declared.event.Event.TheVariants.{Offer, Deliver, GiveUp, Again, Show}
 use Rattle.vt_script.specs.declared.reply.Reply.TheVariants as reply
@@ -17,7 +17,7 @@ use Rattle.two_hosts.specs.Hosts.{TwoHosts, host_of, running_host, host_where, i
 use Rattle.two_hosts.specs.Replies.{AnswersIn, AnswersOn, IsRun}
 
 -- a read or a write, on the host that is found
-values_once : (b : Base) (t : TwoHosts) (n : HostName) (a : Access) (r q : Reply) (fails : ℕ → Bool) → Answers b t.history fails (Some (line.Access a)) r → Answers b t.history fails (Some (line.Access a)) q
+values_once : (b : Snapshot) (t : TwoHosts) (n : HostName) (a : Access) (r q : Reply) (fails : ℕ → Bool) → IsReplyTo b t.history fails (Some (line.Access a)) r → IsReplyTo b t.history fails (Some (line.Access a)) q
     → Legal b (guest_line_on_any b t (Some n) (line.Access a) r).history → Legal b (guest_line_on_any b t (Some n) (line.Access a) q).history → r ≡ q
 values_once b t n a (reply.Value v size) (reply.Value u other) fails one two here there =
     ap (λ k. reply.Value k size) (here.1.1 ∙ sym there.1.1) ∙ ap (reply.Value u) (one.1 ∙ sym two.1)
@@ -37,21 +37,21 @@ values_once b t n a reply.Accepted _ fails one two here there = absurd two
 values_once b t n a _ _ fails one two here there = absurd one
 
 -- an access
-access_once : (b : Base) (t : TwoHosts) (found : Option HostName) (a : Access) (r q : Reply) → AnswersOn b t found (line.Access a) r → AnswersOn b t found (line.Access a) q
+access_once : (b : Snapshot) (t : TwoHosts) (found : Option HostName) (a : Access) (r q : Reply) → AnswersOn b t found (line.Access a) r → AnswersOn b t found (line.Access a) q
     → Legal b (guest_line_on_any b t found (line.Access a) r).history → Legal b (guest_line_on_any b t found (line.Access a) q).history → r ≡ q
 access_once b t None a r q one two here there = one ∙ sym two
 access_once b t (Some n) a r q one two here there = values_once b t n a r q (fails_at (host_of t n)) one two here there
 
 -- the others: each has its one reply
-on_once : (b : Base) (t : TwoHosts) (found : Option HostName) (l : Event) (due : (ℕ → Bool) → Reply) (r q : Reply) → ((fails : ℕ → Bool) (x : Reply) → Answers b t.history fails (Some l) x → x ≡ due fails) → AnswersOn b t found l r → AnswersOn b t found l q → r ≡ q
+on_once : (b : Snapshot) (t : TwoHosts) (found : Option HostName) (l : Event) (due : (ℕ → Bool) → Reply) (r q : Reply) → ((fails : ℕ → Bool) (x : Reply) → IsReplyTo b t.history fails (Some l) x → x ≡ due fails) → AnswersOn b t found l r → AnswersOn b t found l q → r ≡ q
 on_once b t None l due r q only one two = one ∙ sym two
 on_once b t (Some n) l due r q only one two = only (fails_at (host_of t n)) r one ∙ sym (only (fails_at (host_of t n)) q two)
 
-reply_once : (b : Base) (piece : ℕ) (t : TwoHosts) (l : Option Event) (r q : Reply) → AnswersIn b piece t l r → AnswersIn b piece t l q → Legal b (after_exchange b piece t l r).history → Legal b (after_exchange b piece t l q).history → r ≡ q
+reply_once : (b : Snapshot) (piece : ℕ) (t : TwoHosts) (l : Option Event) (r q : Reply) → AnswersIn b piece t l r → AnswersIn b piece t l q → Legal b (after_exchange b piece t l r).history → Legal b (after_exchange b piece t l q).history → r ≡ q
 reply_once b piece t None r q one two here there = absurd one
 reply_once b piece t (Some (line.Fail host call)) r q one two here there = one ∙ sym two
 reply_once b piece t (Some (line.Access a)) r q one two here there = access_once b t (running_host t) a r q one two here there
-reply_once b piece t (Some line.Work) r q one two here there = on_once b t (running_host t) line.Work (turn b t.history) r q (λ fails x is. is) one two
+reply_once b piece t (Some line.Work) r q one two here there = on_once b t (running_host t) line.Work (worker_reply b t.history) r q (λ fails x is. is) one two
 reply_once b piece t (Some line.Ask) r q one two here there = on_once b t (running_host t) line.Ask ask_reply r q (λ fails x is. is) one two
 reply_once b piece t (Some line.Reset) r q one two here there = on_once b t (running_host t) line.Reset (reset_reply b t.history) r q (λ fails x is. is) one two
 reply_once b piece t (Some Offer) r q one two here there = one ∙ sym two
@@ -60,9 +60,9 @@ reply_once b piece t (Some GiveUp) r q one two here there = one ∙ sym two
 reply_once b piece t (Some Again) r q one two here there = one ∙ sym two
 reply_once b piece t (Some (Show k)) r q one two here there = one ∙ sym two
 
--- ---- a front of a legal history is legal
+-- ---- a prefix of a legal history is legal
 
-event_before : (b : Base) (l : Event) (r : Reply) (fails : ℕ → Bool) (p : History) → Legal b (with_event (Some l) r fails p) → Legal b p
+event_before : (b : Snapshot) (l : Event) (r : Reply) (fails : ℕ → Bool) (p : History) → Legal b (with_event (Some l) r fails p) → Legal b p
 event_before b (line.Access a) (reply.Value v size) fails p h = h.0
 event_before b (line.Access a) reply.Accepted fails p h = h.0
 event_before b line.Work (reply.Claim k) fails p h = h.0
@@ -77,28 +77,28 @@ event_before b line.Reset reply.Reset fails p h = h.0
 event_before b line.Reset reply.Link fails p h = h.0
 event_before b _ _ fails p h = h
 
-on_before : (b : Base) (t : TwoHosts) (found : Option HostName) (l : Event) (r : Reply) → Legal b (guest_line_on_any b t found l r).history → Legal b t.history
+on_before : (b : Snapshot) (t : TwoHosts) (found : Option HostName) (l : Event) (r : Reply) → Legal b (guest_line_on_any b t found l r).history → Legal b t.history
 on_before b t None l r h = h
 on_before b t (Some n) l r h = event_before b l r (fails_at (host_of t n)) t.history h
 
-offers_before : (b : Base) (t : TwoHosts) (found : Option HostName) (r : Reply) → Legal b (after_offer b t found r).history → Legal b t.history
+offers_before : (b : Snapshot) (t : TwoHosts) (found : Option HostName) (r : Reply) → Legal b (after_offer b t found r).history → Legal b t.history
 offers_before b t None r h = h
 offers_before b t (Some n) (reply.Offered e m) h = h
 offers_before b t (Some n) _ h = h
 
-comes_before : (b : Base) (piece : ℕ) (t : TwoHosts) (found : Option Message) (r : Reply) → Legal b (after_delivery piece t found r).history → Legal b t.history
+comes_before : (b : Snapshot) (piece : ℕ) (t : TwoHosts) (found : Option Message) (r : Reply) → Legal b (after_delivery piece t found r).history → Legal b t.history
 comes_before b piece t None r h = h
 comes_before b piece t (Some m) r h = h
 
-gives_before : (b : Base) (t : TwoHosts) (found : Option HostName) → Legal b (after_give_up t found).history → Legal b t.history
+gives_before : (b : Snapshot) (t : TwoHosts) (found : Option HostName) → Legal b (after_give_up t found).history → Legal b t.history
 gives_before b t None h = h
 gives_before b t (Some n) h = h
 
-says_before : (b : Base) (t : TwoHosts) (found : Option HostName) → Legal b (after_again t found).history → Legal b t.history
+says_before : (b : Snapshot) (t : TwoHosts) (found : Option HostName) → Legal b (after_again t found).history → Legal b t.history
 says_before b t None h = h
 says_before b t (Some n) h = h
 
-exchange_before : (b : Base) (piece : ℕ) (t : TwoHosts) (l : Option Event) (r : Reply) → Legal b (after_exchange b piece t l r).history → Legal b t.history
+exchange_before : (b : Snapshot) (piece : ℕ) (t : TwoHosts) (l : Option Event) (r : Reply) → Legal b (after_exchange b piece t l r).history → Legal b t.history
 exchange_before b piece t None r h = h
 exchange_before b piece t (Some (line.Fail host call)) r h = event_before b (line.Fail host call) r (fails_at (host_of t host)) t.history h
 exchange_before b piece t (Some (line.Access a)) r h = on_before b t (running_host t) (line.Access a) r h
@@ -116,7 +116,7 @@ exchange_before b piece t (Some (Show k)) r h = h
 same_exchange : (x y : Exchange) → x.line ≡ y.line → x.reply ≡ y.reply → x ≡ y
 same_exchange x y one two = ap (λ l. record { line = l; reply = x.reply }) one ∙ ap (λ r. record { line = y.line; reply = r }) two
 
-pub runs_are_one : (b : Base) (piece : ℕ) (t u : Transcript) → map line_of t ≡ map line_of u → IsRun b piece t → IsRun b piece u → t ≡ u
+pub runs_are_one : (b : Snapshot) (piece : ℕ) (t u : Transcript) → map line_of t ≡ map line_of u → IsRun b piece t → IsRun b piece u → t ≡ u
 runs_are_one b piece [] [] lines one two = refl
 runs_are_one b piece [] (y ∷ u) lines one two = absurd cc
 runs_are_one b piece (x ∷ t) [] lines one two = absurd cc

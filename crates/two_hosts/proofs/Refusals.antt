@@ -2,9 +2,9 @@
 use Rattle.std.proofs.Common.{◌≡◌, ℕ, ◌+◌, ◌≤◌, true, false, ◌&&◌, List, length, Option, Some, None, refl, sym, ◌∙◌, ap, subst, arith, ◌⊎◌, inl, inr}
 use Rattle.std.specs.Prelude.{nat_lt, ◌==◌}
 use Rattle.std.proofs.lemmas.Bool.{cond_both, ltb-true}
-use Rattle.crb_history.specs.Base.{Base}
-use Rattle.move_codec.specs.declared.names.HostName.{HostName}
-use Rattle.move_codec.specs.declared.names.HostName.TheVariants.{A, B}
+use Rattle.crb_history.specs.Snapshot.{Snapshot}
+use Rattle.vt_base.specs.declared.types.HostName.{HostName}
+use Rattle.vt_base.specs.declared.types.HostName.TheVariants.{A, B}
 use Rattle.move_codec.specs.declared.names.Reason.{Reason}
 use Rattle.move_codec.specs.declared.names.Reason.TheVariants as reason
 use Rattle.move_codec.specs.declared.names.Part.{Part}
@@ -117,7 +117,7 @@ by_call x s e (body.Refuse why value) may = refuse_by_call s.stage s e
 -- ---- messages that were sent
 
 -- what was offered in any epoch may be taken
-abbrev pub GoodTotals : (ℕ → Base) → Type 0
+abbrev pub GoodTotals : (ℕ → Snapshot) → Type 0
 GoodTotals offered = (e : ℕ) → first_bad (totals_of (offered e)) ≡ None
 
 passive_off : (g : MoveStage) → IsPassive (side_of g) → is_active g ≡ false
@@ -128,7 +128,7 @@ passive_off (stage.Prepared d) is = refl
 passive_off stage.Running is = absurd is
 passive_off (stage.Offering d totals) is = absurd is
 
-holder_may : (n k : HostName) (x y : SideState) (offered : ℕ → Base) (e : ℕ) (b : Body) → e ≤ x.top → MayBeTaken x e b
+holder_may : (n k : HostName) (x y : SideState) (offered : ℕ → Snapshot) (e : ℕ) (b : Body) → e ≤ x.top → MayBeTaken x e b
 holder_may n k x y offered e (body.Offer totals) le = inl le
 holder_may n k x y offered e (body.Need part offset) le = tt
 holder_may n k x y offered e (body.Piece part offset bytes) le = tt
@@ -137,7 +137,7 @@ holder_may n k x y offered e body.Commit le = tt
 holder_may n k x y offered e body.Abort le = tt
 holder_may n k x y offered e (body.Refuse why value) le = tt
 
-rest_may : (n k : HostName) (x y : SideState) (offered : ℕ → Base) (to : HostName) (e : ℕ) (b : Body) → GoodTotals offered → IsPassive (shown_side y) → Says n k x y offered to e b → MayBeTaken y e b
+rest_may : (n k : HostName) (x y : SideState) (offered : ℕ → Snapshot) (to : HostName) (e : ℕ) (b : Body) → GoodTotals offered → IsPassive (shown_side y) → Says n k x y offered to e b → MayBeTaken y e b
 rest_may n k x y offered to e (body.Offer totals) good passive says = inr (passive_off y.stage passive, ap first_bad says ∙ good e)
 rest_may n k x y offered to e (body.Need part offset) good passive says = tt
 rest_may n k x y offered to e (body.Piece part offset bytes) good passive says = tt
@@ -146,7 +146,7 @@ rest_may n k x y offered to e body.Commit good passive says = tt
 rest_may n k x y offered to e body.Abort good passive says = tt
 rest_may n k x y offered to e (body.Refuse why value) good passive says = tt
 
-pub sent_may : (b : Base) (t : TwoHosts) (m : Message) → HostsInvariant b t → GoodTotals t.offered → IsSent t.sent m → MayBeTaken (side_at t m.to) m.epoch m.body
+pub sent_may : (b : Snapshot) (t : TwoHosts) (m : Message) → HostsInvariant b t → GoodTotals t.offered → IsSent t.sent m → MayBeTaken (side_at t m.to) m.epoch m.body
 sent_may b t m (A, kept) good is = go m.to (kept.each m is)
   where
     go : (to : HostName) → IsConsistent A B t.a.side t.b.side t.offered m → MayBeTaken (side_at t to) m.epoch m.body
@@ -173,9 +173,9 @@ reply_by_call sent delivers.Resumed is = tt
 reply_by_call sent (delivers.Refused m) is = is
 reply_by_call sent (delivers.Wires fault) is = tt
 
-found_by_call : (b : Base) (piece : ℕ) (t : TwoHosts) (found : Option Message) → HostsInvariant b t → GoodTotals t.offered → ((m : Message) → found ≡ Some m → IsSent t.sent m) → IsLinkRefusal (deliver_reply piece t found)
+found_by_call : (b : Snapshot) (piece : ℕ) (t : TwoHosts) (found : Option Message) → HostsInvariant b t → GoodTotals t.offered → ((m : Message) → found ≡ Some m → IsSent t.sent m) → IsLinkRefusal (deliver_reply piece t found)
 found_by_call b piece t None kept good is = tt
 found_by_call b piece t (Some m) kept good is = reply_by_call t.sent _ (by_call (context_for piece t m.to (meets_fault piece t m)) (side_at t m.to) m.epoch m.body (sent_may b t m kept good (is m refl)))
 
-pub refusals_by_calls : (b : Base) (piece : ℕ) (t : TwoHosts) (k number : ℕ) (why : Reason) → HostsInvariant b t → GoodTotals t.offered → deliver_reply piece t (message_at t.sent k) ≡ reply.RefusedSent why number → why ≡ reason.Link
+pub refusals_by_calls : (b : Snapshot) (piece : ℕ) (t : TwoHosts) (k number : ℕ) (why : Reason) → HostsInvariant b t → GoodTotals t.offered → deliver_reply piece t (message_at t.sent k) ≡ reply.RefusedSent why number → why ≡ reason.Link
 refusals_by_calls b piece t k number why kept good is = subst IsLinkRefusal is (found_by_call b piece t (message_at t.sent k) kept good (in_bag_sent t.sent k))

@@ -2,8 +2,8 @@
 use Rattle.std.proofs.Common.{◌≡◌, ◌≢◌, ℕ, ◌+◌, ◌≤◌, ◌<◌, ◌⊎◌, inl, inr, Bool, true, ◌&&◌, List, [], ◌∷◌, ◌++◌, length, Option, Some, None, refl, sym, ◌∙◌, ap, subst, arith, append-nil}
 use Rattle.std.specs.Prelude.{nat_lt, ◌==◌}
 use Rattle.std.proofs.lemmas.Bool.{cond_both, eqb-true, ltb-true, and_parts}
-use Rattle.crb_history.specs.Base.{Base}
-use Rattle.move_codec.specs.declared.names.HostName.{HostName}
+use Rattle.crb_history.specs.Snapshot.{Snapshot}
+use Rattle.vt_base.specs.declared.types.HostName.{HostName}
 use Rattle.move_codec.specs.declared.names.Reason.{Reason}
 use Rattle.move_codec.specs.declared.names.Reason.TheVariants as reason
 use Rattle.move_codec.specs.declared.names.Part.{Part}
@@ -24,11 +24,11 @@ use Rattle.two_hosts.specs.Invariant.{shown_side, IsPassive, IsAwaiting, IsHolde
 use Rattle.two_hosts.proofs.Frames.{Carries, kept_quiet, kept_sent}
 
 -- what is kept after an answer of the host that doesn't hold
-pub record RestLed (n k : HostName) (x : SideState) (offered : ℕ → Base) (Present : Base → Type 0) (sent : List Message) (after : Outcome) : Type 0 where
+pub record RestLed (n k : HostName) (x : SideState) (offered : ℕ → Snapshot) (Present : Snapshot → Type 0) (sent : List Message) (after : Outcome) : Type 0 where
   pub led : PairInvariant n k x after.side offered Present (sent ++ message_in after.answer)
 
 -- the top of a host on such a side
-pub released_top : (offered : ℕ → Base) (s : MoveStage) (top e : ℕ) → side_of s ≡ Released e → MatchesOffer offered s top → top ≡ e
+pub released_top : (offered : ℕ → Snapshot) (s : MoveStage) (top e : ℕ) → side_of s ≡ Released e → MatchesOffer offered s top → top ≡ e
 released_top offered (stage.Released d) top e at seated = let same : d ≡ e = cc in seated ∙ same
 released_top offered stage.Empty top e at seated = absurd cc
 released_top offered stage.Running top e at seated = absurd cc
@@ -36,7 +36,7 @@ released_top offered (stage.Offering d totals) top e at seated = absurd cc
 released_top offered (stage.Filling d totals part place) top e at seated = absurd cc
 released_top offered (stage.Prepared d) top e at seated = absurd cc
 
-pub prepared_top : (offered : ℕ → Base) (s : MoveStage) (top e : ℕ) → side_of s ≡ Prepared e → MatchesOffer offered s top → top ≡ e
+pub prepared_top : (offered : ℕ → Snapshot) (s : MoveStage) (top e : ℕ) → side_of s ≡ Prepared e → MatchesOffer offered s top → top ≡ e
 prepared_top offered (stage.Prepared d) top e at seated = let same : d ≡ e = cc in seated ∙ same
 prepared_top offered stage.Empty top e at seated = absurd cc
 prepared_top offered stage.Running top e at seated = absurd cc
@@ -44,7 +44,7 @@ prepared_top offered (stage.Offering d totals) top e at seated = absurd cc
 prepared_top offered (stage.Filling d totals part place) top e at seated = absurd cc
 prepared_top offered (stage.Released d) top e at seated = absurd cc
 
-pub offering_top : (offered : ℕ → Base) (s : MoveStage) (top e : ℕ) → side_of s ≡ Offering e → MatchesOffer offered s top → top ≡ e
+pub offering_top : (offered : ℕ → Snapshot) (s : MoveStage) (top e : ℕ) → side_of s ≡ Offering e → MatchesOffer offered s top → top ≡ e
 offering_top offered (stage.Offering d totals) top e at seated = let same : d ≡ e = cc in seated.0 ∙ same
 offering_top offered stage.Empty top e at seated = absurd cc
 offering_top offered stage.Running top e at seated = absurd cc
@@ -52,7 +52,7 @@ offering_top offered (stage.Prepared d) top e at seated = absurd cc
 offering_top offered (stage.Filling d totals part place) top e at seated = absurd cc
 offering_top offered (stage.Released d) top e at seated = absurd cc
 
-module _ (n k : HostName) (x y : SideState) (offered : ℕ → Base) (Present : Base → Type 0) (sent : List Message) (old : PairInvariant n k x y offered Present sent) where
+module _ (n k : HostName) (x y : SideState) (offered : ℕ → Snapshot) (Present : Snapshot → Type 0) (sent : List Message) (old : PairInvariant n k x y offered Present sent) where
   -- the holder runs or offers, where the other host isn't Released
   pub holds_on : (s t : Side) → shown_side x ≡ s → shown_side y ≢ Released x.top → IsPassive t → ((e : ℕ) → t ≢ Released e) → IsHolder s t
   holds_on Running t is left passive new = passive
@@ -91,7 +91,7 @@ module _ (n k : HostName) (x y : SideState) (offered : ℕ → Base) (Present : 
   rests Running is = absurd (never_active (shown_side x) refl (inl is))
   rests (Offering e) is = absurd (never_active (shown_side x) refl (inr (e, is)))
 
-module _ (n k : HostName) (x y : SideState) (offered : ℕ → Base) (Present : Base → Type 0) (sent : List Message) (old : PairInvariant n k x y offered Present sent) (piece : ℕ) (fails : Bool) where
+module _ (n k : HostName) (x y : SideState) (offered : ℕ → Snapshot) (Present : Snapshot → Type 0) (sent : List Message) (old : PairInvariant n k x y offered Present sent) (piece : ℕ) (fails : Bool) where
   abbrev r : DeliveryContext
   r = record { me = k; piece = piece; offered = offered; fails = fails }
 

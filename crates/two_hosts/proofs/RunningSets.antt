@@ -2,16 +2,16 @@
 use Rattle.std.proofs.Common.{◌≡◌, ℕ, ◌+◌, ◌⊎◌, inl, inr, Bool, true, false, ◌&&◌, List, [], ◌∷◌, Option, Some, None, refl, sym, ◌∙◌, ap, subst}
 use Rattle.std.specs.Prelude.{◌-◌, ◌^◌, ◌==◌}
 use Rattle.std.proofs.lemmas.Bool.{cond_both, cond-true, cond-false}
-use Rattle.crb_history.specs.Base.{Base}
-use Rattle.crb_history.specs.Continued.{base_after}
+use Rattle.crb_history.specs.Snapshot.{Snapshot}
+use Rattle.crb_history.specs.Continued.{snapshot_after}
 use Rattle.crb_history.specs.Device.{phase_of}
-use Rattle.crb_history.specs.Replies.{is_under_way, Transcript, is_fault}
+use Rattle.vt_transcript.specs.Replies.{is_under_way, Transcript, is_fault}
 use Rattle.crb_regs.specs.Registers.{is_lost}
 use Rattle.vt_script.specs.declared.event.Event.{Event}
 use Rattle.vt_script.specs.declared.event.Event.TheVariants as line
 use Rattle.vt_script.specs.declared.reply.Reply.{Reply}
-use Rattle.move_codec.specs.declared.names.HostName.{HostName}
-use Rattle.move_codec.specs.declared.names.HostName.TheVariants.{A, B}
+use Rattle.vt_base.specs.declared.types.HostName.{HostName}
+use Rattle.vt_base.specs.declared.types.HostName.TheVariants.{A, B}
 use Rattle.move_codec.specs.declared.message.Message.{Message}
 use Rattle.move_core.specs.declared.side.Side.{Side}
 use Rattle.move_core.specs.declared.side.Side.TheVariants.{Empty, Running, Offering, Released, Filling, Prepared}
@@ -176,7 +176,7 @@ idle Running h = absurd h
 idle (Offering e) h = absurd h
 
 -- where a host runs or offers, the other one doesn't
-pub alone : (b : Base) (t : TwoHosts) → HostsInvariant b t → (n : HostName) → active_on (shown t n) ≡ true → IsPassive (shown t (other n))
+pub alone : (b : Snapshot) (t : TwoHosts) → HostsInvariant b t → (n : HostName) → active_on (shown t n) ≡ true → IsPassive (shown t (other n))
 alone b t (A, kept) A is = active_passive (shown_side t.a.side) (shown_side t.b.side) kept.sides.holds is
 alone b t (B, kept) B is = active_passive (shown_side t.b.side) (shown_side t.a.side) kept.sides.holds is
 alone b t (A, kept) B is = absurd (never_passive (shown_side t.b.side) (rest.rests A B t.a.side t.b.side t.offered _ t.sent kept (shown_side t.b.side) refl) is)
@@ -190,7 +190,7 @@ holds_prepared Empty e h is = absurd h
 holds_prepared (Released d) e h is = absurd h
 holds_prepared (Filling d) e h is = absurd h
 
-pub handed_to : (b : Base) (t : TwoHosts) → HostsInvariant b t → (n : HostName) (e : ℕ) → shown t (other n) ≡ Released e → active_on (shown t n) ≡ false → shown t n ≡ Prepared e
+pub handed_to : (b : Snapshot) (t : TwoHosts) → HostsInvariant b t → (n : HostName) (e : ℕ) → shown t (other n) ≡ Released e → active_on (shown t n) ≡ false → shown t n ≡ Prepared e
 handed_to b t (A, kept) A e is passive = holds_prepared (shown_side t.a.side) e (subst (IsHolder (shown_side t.a.side)) is kept.sides.holds) passive
 handed_to b t (B, kept) B e is passive = holds_prepared (shown_side t.b.side) e (subst (IsHolder (shown_side t.b.side)) is kept.sides.holds) passive
 handed_to b t (A, kept) B e is passive = absurd (let wrong : ⊥ = subst (λ s. IsHolder s (shown_side t.b.side)) is kept.sides.holds in wrong)
@@ -205,7 +205,7 @@ holder_prepared (Released d) e h = absurd h
 holder_prepared (Filling d) e h = absurd h
 
 -- beside a prepared host the other one was released at its epoch, or is active
-pub beside_prepared : (b : Base) (t : TwoHosts) → HostsInvariant b t → (n : HostName) (e : ℕ) → shown t n ≡ Prepared e → (shown t (other n) ≡ Released e) ⊎ (active_on (shown t (other n)) ≡ true)
+pub beside_prepared : (b : Snapshot) (t : TwoHosts) → HostsInvariant b t → (n : HostName) (e : ℕ) → shown t n ≡ Prepared e → (shown t (other n) ≡ Released e) ⊎ (active_on (shown t (other n)) ≡ true)
 beside_prepared b t (A, kept) A e is = inl (subst (λ s. IsHolder s (shown_side t.b.side)) is kept.sides.holds)
 beside_prepared b t (B, kept) B e is = inl (subst (λ s. IsHolder s (shown_side t.a.side)) is kept.sides.holds)
 beside_prepared b t (A, kept) B e is = inr (holder_prepared (shown_side t.a.side) e (subst (IsHolder (shown_side t.a.side)) is kept.sides.holds))
@@ -230,7 +230,7 @@ outcome_still : (t : TwoHosts) (to : HostName) (h : HostState) (after : Outcome)
 outcome_still t A h after = refl
 outcome_still t B h after = refl
 
-module _ (b : Base) (t : TwoHosts) (to : HostName) (h : HostState) (after : Outcome) (r : RunningSet) (old : Agrees t r) (kept : HostsInvariant b t) (then : HostsInvariant b (with_outcome t to h after)) where
+module _ (b : Snapshot) (t : TwoHosts) (to : HostName) (h : HostState) (after : Outcome) (r : RunningSet) (old : Agrees t r) (kept : HostsInvariant b t) (then : HostsInvariant b (with_outcome t to h after)) where
   abbrev Result : Type 0
   Result = Agrees (with_outcome t to h after) (after_reply (delivery_reply t.sent after.answer) r)
 
@@ -266,7 +266,7 @@ module _ (b : Base) (t : TwoHosts) (to : HostName) (h : HostState) (after : Outc
   agrees_replied a (inl is) agrees = subst (λ d. Agrees new (after_reply (delivery_reply t.sent d) r)) (sym is) agrees
   agrees_replied a (inr quiet) agrees = subst (Agrees new) (sym (quiet_reply t.sent a r quiet.0)) (subst (Agrees new) (quiet_reply t.sent after.answer r quiet.1) agrees)
 
-deliver_agrees : (b : Base) (piece : ℕ) (t : TwoHosts) (found : Option Message) (q : Reply) (r : RunningSet) → Agrees t r → HostsInvariant b t → HostsInvariant b (after_delivery piece t found q) → q ≡ deliver_reply piece t found
+deliver_agrees : (b : Snapshot) (piece : ℕ) (t : TwoHosts) (found : Option Message) (q : Reply) (r : RunningSet) → Agrees t r → HostsInvariant b t → HostsInvariant b (after_delivery piece t found q) → q ≡ deliver_reply piece t found
     → Agrees (after_delivery piece t found q) (after_reply q r)
 deliver_agrees b piece t None q r old kept then is = subst (λ a. Agrees t (after_reply a r)) (sym is) old
 deliver_agrees b piece t (Some m) q r old kept then is =
@@ -288,15 +288,15 @@ none_left : (r : RunningSet) (n : HostName) → contains (without_source r) n �
 none_left r A = refl
 none_left r B = refl
 
-offer_acted : (v : Base) (t : TwoHosts) (n : HostName) → shown (offered_by v t n) n ≡ Offering ((side_at t n).top + 1)
+offer_acted : (v : Snapshot) (t : TwoHosts) (n : HostName) → shown (offered_by v t n) n ≡ Offering ((side_at t n).top + 1)
 offer_acted v t A = refl
 offer_acted v t B = refl
 
-offer_still : (v : Base) (t : TwoHosts) (n : HostName) → shown (offered_by v t n) (other n) ≡ shown t (other n)
+offer_still : (v : Snapshot) (t : TwoHosts) (n : HostName) → shown (offered_by v t n) (other n) ≡ shown t (other n)
 offer_still v t A = refl
 offer_still v t B = refl
 
-offered_agrees : (b v : Base) (t : TwoHosts) (n : HostName) (r : RunningSet) → Agrees t r → HostsInvariant b t → shown t n ≡ Running → Agrees (offered_by v t n) (without_source r)
+offered_agrees : (b v : Snapshot) (t : TwoHosts) (n : HostName) (r : RunningSet) → Agrees t r → HostsInvariant b t → shown t n ≡ Running → Agrees (offered_by v t n) (without_source r)
 offered_agrees b v t n r old kept is = record { runs = λ k. none_left r k ∙ runs k (same_or_other k n); offers = λ k e at. offered k e at (same_or_other k n); released = λ k e at next. released k e at next (same_or_other k n) }
   where
     passive : IsPassive (shown t (other n))
@@ -369,24 +369,24 @@ pub data OfferEnds (q : Reply) : Type 0 where
   sent : (e m : ℕ) → q ≡ reply.Offered e m → OfferEnds q
   refused : IsRefusal q → OfferEnds q
 
-offer_ends : (b : Base) (t : TwoHosts) (n : HostName) → OfferEnds (offer_reply b t (Some n))
+offer_ends : (b : Snapshot) (t : TwoHosts) (n : HostName) → OfferEnds (offer_reply b t (Some n))
 offer_ends b t n = cond_both (is_lost (phase_of b t.history)) _ _ OfferEnds (λ yes. refused tt) (λ no.
     cond_both (is_under_way b t.history) _ _ OfferEnds (λ yes. refused tt) (λ no.
     cond_both ((host_of t n).side.top == 2 ^ 64 - 1) _ _ OfferEnds (λ yes. refused tt) (λ no.
     cond_both (fails_at (host_of t n) 9) _ _ OfferEnds (λ yes. refused tt) (λ no. sent ((host_of t n).side.top + 1) (next_number t.sent) refl))))
 
-refused_offer : (b : Base) (t : TwoHosts) (n : HostName) (q : Reply) (r : RunningSet) → Agrees t r → IsRefusal q → Agrees (after_offer b t (Some n) q) r
+refused_offer : (b : Snapshot) (t : TwoHosts) (n : HostName) (q : Reply) (r : RunningSet) → Agrees t r → IsRefusal q → Agrees (after_offer b t (Some n) q) r
 refused_offer b t n (reply.Offered e m) r old h = absurd h
 refused_offer b t n reply.Resumed r old h = absurd h
 refused_offer b t n (reply.ResumedSent m) r old h = absurd h
 refused_offer b t n reply.Running r old h = absurd h
 refused_offer b t n q r old h = same_sides t _ r (counted_sides t q 0 n) old
 
-offer_agrees : (b : Base) (t : TwoHosts) (n : HostName) (q : Reply) (r : RunningSet) → Agrees t r → HostsInvariant b t → shown t n ≡ Running → q ≡ offer_reply b t (Some n) → Agrees (after_offer b t (Some n) q) (after_reply q r)
+offer_agrees : (b : Snapshot) (t : TwoHosts) (n : HostName) (q : Reply) (r : RunningSet) → Agrees t r → HostsInvariant b t → shown t n ≡ Running → q ≡ offer_reply b t (Some n) → Agrees (after_offer b t (Some n) q) (after_reply q r)
 offer_agrees b t n q r old kept is answers = go (subst OfferEnds (sym answers) (offer_ends b t n))
   where
     go : OfferEnds q → Agrees (after_offer b t (Some n) q) (after_reply q r)
-    go (sent e m at) = subst (λ a. Agrees (after_offer b t (Some n) a) (after_reply a r)) (sym at) (offered_agrees b (base_after b t.history) t n r old kept is)
+    go (sent e m at) = subst (λ a. Agrees (after_offer b t (Some n) a) (after_reply a r)) (sym at) (offered_agrees b (snapshot_after b t.history) t n r old kept is)
     go (refused h) = subst (Agrees (after_offer b t (Some n) q)) (sym (refusal_reply q r h)) (refused_offer b t n q r old h)
 
 -- ---- giveup and again
@@ -412,7 +412,7 @@ give_up_agrees t n r old is =
 
 -- ---- a line of the guest
 
-guest_sides : (b : Base) (t : TwoHosts) (n k : HostName) (e : Event) (g : Reply) → shown (guest_line_on b t n e g) k ≡ shown t k
+guest_sides : (b : Snapshot) (t : TwoHosts) (n k : HostName) (e : Event) (g : Reply) → shown (guest_line_on b t n e g) k ≡ shown t k
 guest_sides b t A A e g = refl
 guest_sides b t A B e g = refl
 guest_sides b t B A e g = refl
@@ -425,17 +425,17 @@ of_device (reply.ResumedSent m) r is = absurd is
 of_device reply.Running r is = absurd is
 of_device _ r is = refl
 
-on_agrees : (b : Base) (t : TwoHosts) (found : Option HostName) (e : Event) (q : Reply) (r : RunningSet) → Agrees t r → AnswersOn b t found e q → Agrees (guest_line_on_any b t found e q) (after_reply q r)
+on_agrees : (b : Snapshot) (t : TwoHosts) (found : Option HostName) (e : Event) (q : Reply) (r : RunningSet) → Agrees t r → AnswersOn b t found e q → Agrees (guest_line_on_any b t found e q) (after_reply q r)
 on_agrees b t None e q r old is = subst (λ a. Agrees t (after_reply a r)) (sym is) old
 on_agrees b t (Some n) e q r old is =
     subst (Agrees (guest_line_on b t n e q)) (sym (of_device q r (replies_of_device b t.history (fails_at (host_of t n)) e q is))) (same_sides t _ r (λ k. guest_sides b t n k e q) old)
 
-fault_agrees : (b : Base) (t : TwoHosts) (n : HostName) (call : ℕ) (q : Reply) (r : RunningSet) → Agrees t r → q ≡ reply.Accepted → Agrees (guest_line_on b t n (line.Fail n call) q) (after_reply q r)
+fault_agrees : (b : Snapshot) (t : TwoHosts) (n : HostName) (call : ℕ) (q : Reply) (r : RunningSet) → Agrees t r → q ≡ reply.Accepted → Agrees (guest_line_on b t n (line.Fail n call) q) (after_reply q r)
 fault_agrees b t n call q r old is = subst (λ a. Agrees (guest_line_on b t n (line.Fail n call) q) (after_reply a r)) (sym is) (same_sides t _ r (λ k. guest_sides b t n k (line.Fail n call) q) old)
 
 -- ---- every line
 
-line_agrees : (b : Base) (piece : ℕ) (t : TwoHosts) (l : Event) (q : Reply) (r : RunningSet) → Agrees t r → HostsInvariant b t → HostsInvariant b (after_line b piece t l q) → AnswersLine b piece t l q → Agrees (after_line b piece t l q) (after_reply q r)
+line_agrees : (b : Snapshot) (piece : ℕ) (t : TwoHosts) (l : Event) (q : Reply) (r : RunningSet) → Agrees t r → HostsInvariant b t → HostsInvariant b (after_line b piece t l q) → AnswersLine b piece t l q → Agrees (after_line b piece t l q) (after_reply q r)
 line_agrees b piece t (line.Access a) q r old kept then answers = on_agrees b t (running_host t) (line.Access a) q r old answers
 line_agrees b piece t line.Work q r old kept then answers = on_agrees b t (running_host t) line.Work q r old answers
 line_agrees b piece t line.Ask q r old kept then answers = on_agrees b t (running_host t) line.Ask q r old answers
@@ -454,7 +454,7 @@ line_agrees b piece t (Show k) q r old kept then answers = subst (λ a. Agrees t
     shows None = old
     shows (Some m) = old
 
-first_agrees : (b : Base) → Agrees (first_hosts b) (record { a = true; b = false; source = A })
+first_agrees : (b : Snapshot) → Agrees (first_hosts b) (record { a = true; b = false; source = A })
 first_agrees b = record { runs = runs; offers = offers; released = released }
   where
     runs : (n : HostName) → contains (record { a = true; b = false; source = A }) n ≡ runs_on (shown (first_hosts b) n)
@@ -469,20 +469,20 @@ first_agrees b = record { runs = runs; offers = offers; released = released }
     released A e h at = refl
     released B e h at = absurd cc
 
-exchange_agrees : (b : Base) (piece : ℕ) (t : TwoHosts) (l : Option Event) (q : Reply) (r : RunningSet) → Agrees t r → HostsInvariant b t → HostsInvariant b (after_exchange b piece t l q) → AnswersIn b piece t l q → Agrees (after_exchange b piece t l q) (after_reply q r)
+exchange_agrees : (b : Snapshot) (piece : ℕ) (t : TwoHosts) (l : Option Event) (q : Reply) (r : RunningSet) → Agrees t r → HostsInvariant b t → HostsInvariant b (after_exchange b piece t l q) → AnswersIn b piece t l q → Agrees (after_exchange b piece t l q) (after_reply q r)
 exchange_agrees b piece t None q r old kept then answers = absurd answers
 exchange_agrees b piece t (Some l) q r old kept then answers = line_agrees b piece t l q r old kept then answers
 
-pub run_agrees : (b : Base) (piece : ℕ) (t : Transcript) → InTurn b piece t → Agrees (hosts_after b piece t) (running_set t)
+pub run_agrees : (b : Snapshot) (piece : ℕ) (t : Transcript) → InTurn b piece t → Agrees (hosts_after b piece t) (running_set t)
 run_agrees b piece [] in_turn = first_agrees b
 run_agrees b piece (x ∷ t) in_turn = exchange_agrees b piece (hosts_after b piece t) x.line x.reply (running_set t) (run_agrees b piece t in_turn.0) (run_kept b piece t in_turn.0) (run_kept b piece (x ∷ t) in_turn) in_turn.1
 
 -- ---- what follows
 
-pub runs_where : (b : Base) (piece : ℕ) (t : Transcript) → InTurn b piece t → (n : HostName) → contains (running_set t) n ≡ is_running (stage_at (hosts_after b piece t) n)
+pub runs_where : (b : Snapshot) (piece : ℕ) (t : Transcript) → InTurn b piece t → (n : HostName) → contains (running_set t) n ≡ is_running (stage_at (hosts_after b piece t) n)
 runs_where b piece t in_turn n = (run_agrees b piece t in_turn).runs n ∙ sym (running_on (stage_at (hosts_after b piece t) n))
 
-pub never_two : (b : Base) (piece : ℕ) (t : Transcript) → InTurn b piece t → ((running_set t).a && (running_set t).b) ≡ false
+pub never_two : (b : Snapshot) (piece : ℕ) (t : Transcript) → InTurn b piece t → ((running_set t).a && (running_set t).b) ≡ false
 never_two b piece t in_turn = go (runs_on (shown w A)) refl
   where
     w : TwoHosts

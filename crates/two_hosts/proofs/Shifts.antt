@@ -13,8 +13,8 @@ use Rattle.move_core.specs.declared.answers.Delivered.{Delivered}
 use Rattle.move_core.specs.declared.answers.Delivered.TheVariants as delivers
 use Rattle.move_core.specs.Sides.{side_of, is_running, is_active, total_of, part_after, first_bad}
 use Rattle.move_core.specs.Table.{is_next}
-use Rattle.crb_history.specs.Base.{Base}
-use Rattle.move_codec.specs.declared.names.HostName.{HostName}
+use Rattle.crb_history.specs.Snapshot.{Snapshot}
+use Rattle.vt_base.specs.declared.types.HostName.{HostName}
 use Rattle.two_hosts.specs.Deliveries.{on_offer, SideState, Outcome, DeliveryContext, ignored, delivered, takes_offer, gives, on_need, goes_to, reaches, on_piece, on_prepared, on_commit, on_abort, on_refuse}
 use Rattle.two_hosts.specs.Invariant.{shown_side}
 
@@ -183,7 +183,7 @@ quiet_piece x (stage.Offering d totals) s e part offset bytes = tt
 quiet_piece x (stage.Released d) s e part offset bytes = tt
 quiet_piece x (stage.Prepared d) s e part offset bytes = tt
 
-module _ (me : HostName) (piece : ℕ) (offered : ℕ → Base) (f g : Bool) where
+module _ (me : HostName) (piece : ℕ) (offered : ℕ → Snapshot) (f g : Bool) where
   abbrev x : Bool → DeliveryContext
   x fails = record { me = me; piece = piece; offered = offered; fails = fails }
 

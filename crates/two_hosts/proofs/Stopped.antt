@@ -2,14 +2,14 @@
 use Rattle.std.proofs.Common.{◌≡◌, ℕ, Bool, true, false, not, ◌&&◌, ◌||◌, List, Option, Some, None, refl, sym, ◌∙◌, ap}
 use Rattle.std.specs.Prelude.{◌-◌, ◌^◌, ◌==◌, if◌then◌else◌}
 use Rattle.std.proofs.lemmas.Bool.{cond_both}
-use Rattle.crb_history.specs.Base.{Base}
+use Rattle.crb_history.specs.Snapshot.{Snapshot}
 use Rattle.crb_history.specs.Device.{phase_of}
-use Rattle.crb_history.specs.Replies.{is_under_way, Transcript}
+use Rattle.vt_transcript.specs.Replies.{is_under_way, Transcript}
 use Rattle.crb_regs.specs.Registers.{is_lost}
 use Rattle.vt_script.specs.declared.event.Event.{Event}
 use Rattle.vt_script.specs.declared.event.Event.TheVariants as line
-use Rattle.move_codec.specs.declared.names.HostName.{HostName}
-use Rattle.move_codec.specs.declared.names.HostName.TheVariants.{A, B}
+use Rattle.vt_base.specs.declared.types.HostName.{HostName}
+use Rattle.vt_base.specs.declared.types.HostName.TheVariants.{A, B}
 use Rattle.move_codec.specs.declared.message.Message.{Message}
 use Rattle.move_core.specs.declared.answers.Delivered.{Delivered}
 use Rattle.move_core.specs.declared.answers.Delivered.TheVariants as delivers
@@ -42,16 +42,16 @@ of_device : (q : Reply) → IsOfDevice q → GoesOn q
 of_device reply.Stopped is = absurd is
 of_device _ is = refl
 
-on_stopped : (b : Base) (t : TwoHosts) (e : Event) (q : Reply) → AnswersOn b t (running_host t) e q → is_stopped q ≡ none_runs t
+on_stopped : (b : Snapshot) (t : TwoHosts) (e : Event) (q : Reply) → AnswersOn b t (running_host t) e q → is_stopped q ≡ none_runs t
 on_stopped b t e q answers = running_cases t (λ found none. AnswersOn b t found e q → is_stopped q ≡ none) (λ n is. of_device q (replies_of_device b t.history (fails_at (host_of t n)) e q is)) (λ is. ap is_stopped is) answers
 
-offer_goes_on : (b : Base) (t : TwoHosts) (n : HostName) → GoesOn (offer_reply b t (Some n))
+offer_goes_on : (b : Snapshot) (t : TwoHosts) (n : HostName) → GoesOn (offer_reply b t (Some n))
 offer_goes_on b t n = cond_both (is_lost (phase_of b t.history)) _ _ GoesOn (λ yes. refl) (λ no.
     cond_both (is_under_way b t.history) _ _ GoesOn (λ yes. refl) (λ no.
     cond_both ((host_of t n).side.top == 2 ^ 64 - 1) _ _ GoesOn (λ yes. refl) (λ no.
     cond_both (fails_at (host_of t n) 9) _ _ GoesOn (λ yes. refl) (λ no. refl))))
 
-offer_stopped : (b : Base) (t : TwoHosts) (q : Reply) → q ≡ offer_reply b t (running_host t) → is_stopped q ≡ none_runs t
+offer_stopped : (b : Snapshot) (t : TwoHosts) (q : Reply) → q ≡ offer_reply b t (running_host t) → is_stopped q ≡ none_runs t
 offer_stopped b t q is = ap is_stopped is ∙ running_cases t (λ found none. is_stopped (offer_reply b t found) ≡ none) (λ n. offer_goes_on b t n) refl
 
 delivery_goes_on : (sent : List Message) (a : Delivered) → GoesOn (delivery_reply sent a)
@@ -79,7 +79,7 @@ show_goes_on : (found : Option Message) → GoesOn (show_reply found)
 show_goes_on None = refl
 show_goes_on (Some m) = refl
 
-line_stopped : (b : Base) (piece : ℕ) (t : TwoHosts) (l : Event) (q : Reply) → AnswersLine b piece t l q → is_stopped q ≡ (needs_running l && none_runs t)
+line_stopped : (b : Snapshot) (piece : ℕ) (t : TwoHosts) (l : Event) (q : Reply) → AnswersLine b piece t l q → is_stopped q ≡ (needs_running l && none_runs t)
 line_stopped b piece t (line.Access a) q answers = on_stopped b t (line.Access a) q answers
 line_stopped b piece t line.Work q answers = on_stopped b t line.Work q answers
 line_stopped b piece t line.Ask q answers = on_stopped b t line.Ask q answers
@@ -91,7 +91,7 @@ line_stopped b piece t GiveUp q answers = ap is_stopped answers ∙ give_up_goes
 line_stopped b piece t Again q answers = ap is_stopped answers ∙ again_goes_on t (host_where is_prepared t)
 line_stopped b piece t (Show k) q answers = ap is_stopped answers ∙ show_goes_on (message_at t.sent k)
 
-pub stopped_where_empty : (b : Base) (piece : ℕ) (t : Transcript) (l : Event) (q : Reply) → InTurn b piece t → AnswersLine b piece (hosts_after b piece t) l q
+pub stopped_where_empty : (b : Snapshot) (piece : ℕ) (t : Transcript) (l : Event) (q : Reply) → InTurn b piece t → AnswersLine b piece (hosts_after b piece t) l q
     → is_stopped q ≡ (needs_running l && is_empty (running_set t))
 stopped_where_empty b piece t l q in_turn answers =
     let w = hosts_after b piece t in

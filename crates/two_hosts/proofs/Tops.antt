@@ -3,15 +3,15 @@ use Rattle.std.proofs.Common.{◌≡◌, ◌≢◌, ℕ, suc, ◌+◌, ◌≤◌
 use Rattle.std.specs.Prelude.{nat_lt, ◌==◌, ◌-◌, ◌^◌}
 use Rattle.std.proofs.lemmas.Bool.{cond_both, eqb-true}
 use Rattle.crb_regs.specs.Registers.{is_lost}
-use Rattle.crb_history.specs.Base.{Base}
-use Rattle.crb_history.specs.Continued.{base_after}
+use Rattle.crb_history.specs.Snapshot.{Snapshot}
+use Rattle.crb_history.specs.Continued.{snapshot_after}
 use Rattle.crb_history.specs.Device.{phase_of}
-use Rattle.crb_history.specs.Replies.{is_under_way, Transcript, is_fault}
+use Rattle.vt_transcript.specs.Replies.{is_under_way, Transcript, is_fault}
 use Rattle.vt_script.specs.declared.event.Event.{Event}
 use Rattle.vt_script.specs.declared.event.Event.TheVariants as line
 use Rattle.vt_script.specs.declared.reply.Reply.{Reply}
-use Rattle.move_codec.specs.declared.names.HostName.{HostName}
-use Rattle.move_codec.specs.declared.names.HostName.TheVariants.{A, B}
+use Rattle.vt_base.specs.declared.types.HostName.{HostName}
+use Rattle.vt_base.specs.declared.types.HostName.TheVariants.{A, B}
 use Rattle.move_codec.specs.declared.names.Part.{Part}
 use Rattle.move_codec.specs.declared.message.Message.{Message}
 use Rattle.move_codec.specs.declared.message.Body.{Body}
@@ -118,7 +118,7 @@ replaced : (t : TwoHosts) (k : ℕ) (n : HostName) (h : HostState) → h.side.to
 replaced t k A h le low = record { a = le; b = omega (arith, low.b) }
 replaced t k B h le low = record { a = omega (arith, low.a); b = le }
 
-epoch_low : (b : Base) (t : TwoHosts) (k : ℕ) (m : Message) → HostsInvariant b t → AreBelow t k → IsSent t.sent m → m.epoch ≤ k
+epoch_low : (b : Snapshot) (t : TwoHosts) (k : ℕ) (m : Message) → HostsInvariant b t → AreBelow t k → IsSent t.sent m → m.epoch ≤ k
 epoch_low b t k m (A, kept) low is = let le = (kept.each m is).epoch in omega (arith, le, low.a)
 epoch_low b t k m (B, kept) low is = let le = (kept.each m is).epoch in omega (arith, le, low.b)
 
@@ -126,18 +126,18 @@ outcome_low : (t : TwoHosts) (k : ℕ) (n : HostName) (h : HostState) (after : O
 outcome_low t k A h after le low = record { a = omega (arith, le); b = omega (arith, low.b) }
 outcome_low t k B h after le low = record { a = omega (arith, low.a); b = omega (arith, le) }
 
-deliver_low : (b : Base) (piece : ℕ) (t : TwoHosts) (k : ℕ) (found : Option Message) (q : Reply) → HostsInvariant b t → AreBelow t k → ((m : Message) → found ≡ Some m → IsSent t.sent m) → AreBelow (after_delivery piece t found q) (suc k)
+deliver_low : (b : Snapshot) (piece : ℕ) (t : TwoHosts) (k : ℕ) (found : Option Message) (q : Reply) → HostsInvariant b t → AreBelow t k → ((m : Message) → found ≡ Some m → IsSent t.sent m) → AreBelow (after_delivery piece t found q) (suc k)
 deliver_low b piece t k None q kept low is = later t k low
 deliver_low b piece t k (Some m) q kept low is = outcome_low t k m.to (counted q (calls_of_delivery (context_for piece t m.to (is_fault q)) (side_at t m.to) m.epoch m.body) (host_of t m.to)) (delivered (context_for piece t m.to (is_fault q)) (side_at t m.to) m.epoch m.body)
     (delivered_below (side_at t m.to) m.epoch k (low_at t k m.to low) (context_for piece t m.to (is_fault q)) m.body (epoch_low b t k m kept low (is m refl))) low
 
-offered_low : (v : Base) (t : TwoHosts) (k : ℕ) (n : HostName) → AreBelow t k → AreBelow (offered_by v t n) (suc k)
+offered_low : (v : Snapshot) (t : TwoHosts) (k : ℕ) (n : HostName) → AreBelow t k → AreBelow (offered_by v t n) (suc k)
 offered_low v t k A low = record { a = omega (arith, low.a); b = omega (arith, low.b) }
 offered_low v t k B low = record { a = omega (arith, low.a); b = omega (arith, low.b) }
 
-offer_low : (b : Base) (t : TwoHosts) (k : ℕ) (found : Option HostName) (q : Reply) → AreBelow t k → AreBelow (after_offer b t found q) (suc k)
+offer_low : (b : Snapshot) (t : TwoHosts) (k : ℕ) (found : Option HostName) (q : Reply) → AreBelow t k → AreBelow (after_offer b t found q) (suc k)
 offer_low b t k None q low = later t k low
-offer_low b t k (Some n) (reply.Offered e m) low = offered_low (base_after b t.history) t k n low
+offer_low b t k (Some n) (reply.Offered e m) low = offered_low (snapshot_after b t.history) t k n low
 offer_low b t k (Some n) q low = replaced t k n (counted q 0 (host_of t n)) (let le = low_at t k n low in omega (arith, le)) low
 
 give_up_low : (t : TwoHosts) (k : ℕ) (found : Option HostName) → AreBelow t k → AreBelow (after_give_up t found) (suc k)
@@ -149,15 +149,15 @@ again_low : (t : TwoHosts) (k : ℕ) (found : Option HostName) → AreBelow t k 
 again_low t k None low = later t k low
 again_low t k (Some n) low = record { a = omega (arith, low.a); b = omega (arith, low.b) }
 
-guest_low : (b : Base) (t : TwoHosts) (k : ℕ) (n : HostName) (e : Event) (g : Reply) → AreBelow t k → AreBelow (guest_line_on b t n e g) (suc k)
+guest_low : (b : Snapshot) (t : TwoHosts) (k : ℕ) (n : HostName) (e : Event) (g : Reply) → AreBelow t k → AreBelow (guest_line_on b t n e g) (suc k)
 guest_low b t k A e g low = record { a = omega (arith, low.a); b = omega (arith, low.b) }
 guest_low b t k B e g low = record { a = omega (arith, low.a); b = omega (arith, low.b) }
 
-any_low : (b : Base) (t : TwoHosts) (k : ℕ) (found : Option HostName) (e : Event) (g : Reply) → AreBelow t k → AreBelow (guest_line_on_any b t found e g) (suc k)
+any_low : (b : Snapshot) (t : TwoHosts) (k : ℕ) (found : Option HostName) (e : Event) (g : Reply) → AreBelow t k → AreBelow (guest_line_on_any b t found e g) (suc k)
 any_low b t k None e g low = later t k low
 any_low b t k (Some n) e g low = guest_low b t k n e g low
 
-line_low : (b : Base) (piece : ℕ) (t : TwoHosts) (k : ℕ) (l : Event) (q : Reply) → HostsInvariant b t → AreBelow t k → AreBelow (after_line b piece t l q) (suc k)
+line_low : (b : Snapshot) (piece : ℕ) (t : TwoHosts) (k : ℕ) (l : Event) (q : Reply) → HostsInvariant b t → AreBelow t k → AreBelow (after_line b piece t l q) (suc k)
 line_low b piece t k (line.Access a) q kept low = any_low b t k (running_host t) (line.Access a) q low
 line_low b piece t k line.Work q kept low = any_low b t k (running_host t) line.Work q low
 line_low b piece t k line.Ask q kept low = any_low b t k (running_host t) line.Ask q low
@@ -169,11 +169,11 @@ line_low b piece t k GiveUp q kept low = give_up_low t k (host_where is_offering
 line_low b piece t k Again q kept low = again_low t k (host_where is_prepared t) low
 line_low b piece t k (Show j) q kept low = later t k low
 
-exchange_low : (b : Base) (piece : ℕ) (t : TwoHosts) (k : ℕ) (l : Option Event) (q : Reply) → HostsInvariant b t → AreBelow t k → AreBelow (after_exchange b piece t l q) (suc k)
+exchange_low : (b : Snapshot) (piece : ℕ) (t : TwoHosts) (k : ℕ) (l : Option Event) (q : Reply) → HostsInvariant b t → AreBelow t k → AreBelow (after_exchange b piece t l q) (suc k)
 exchange_low b piece t k None q kept low = later t k low
 exchange_low b piece t k (Some l) q kept low = line_low b piece t k l q kept low
 
-pub run_low : (b : Base) (piece : ℕ) (t : Transcript) → InTurn b piece t → AreBelow (hosts_after b piece t) (length t)
+pub run_low : (b : Snapshot) (piece : ℕ) (t : Transcript) → InTurn b piece t → AreBelow (hosts_after b piece t) (length t)
 run_low b piece [] in_turn = record { a = omega arith; b = omega arith }
 run_low b piece (x ∷ t) in_turn = exchange_low b piece (hosts_after b piece t) (length t) x.line x.reply (run_kept b piece t in_turn.0) (run_low b piece t in_turn.0)
 
@@ -182,13 +182,13 @@ run_low b piece (x ∷ t) in_turn = exchange_low b piece (hosts_after b piece t)
 abbrev HasEpoch : Reply → Type 0
 HasEpoch q = q ≢ reply.EpochEnd
 
-some_epoch : (b : Base) (t : TwoHosts) (n : HostName) → (side_at t n).top < 2 ^ 64 - 1 → HasEpoch (offer_reply b t (Some n))
+some_epoch : (b : Snapshot) (t : TwoHosts) (n : HostName) → (side_at t n).top < 2 ^ 64 - 1 → HasEpoch (offer_reply b t (Some n))
 some_epoch b t n low = cond_both (is_lost (phase_of b t.history)) _ _ HasEpoch (λ yes wrong. cc) (λ no.
     cond_both (is_under_way b t.history) _ _ HasEpoch (λ yes wrong. cc) (λ no.
     cond_both ((host_of t n).side.top == 2 ^ 64 - 1) _ _ HasEpoch (λ yes. absurd (let same : (side_at t n).top ≡ 2 ^ 64 - 1 = eqb-true (side_at t n).top (2 ^ 64 - 1) yes in omega (arith, same, low))) (λ no.
     cond_both (fails_at (host_of t n) 9) _ _ HasEpoch (λ yes wrong. cc) (λ no wrong. cc))))
 
-pub epochs_last : (b : Base) (piece : ℕ) (t : Transcript) → InTurn b piece t → length t < 2 ^ 64 - 1 → offer_reply b (hosts_after b piece t) (running_host (hosts_after b piece t)) ≢ reply.EpochEnd
+pub epochs_last : (b : Snapshot) (piece : ℕ) (t : Transcript) → InTurn b piece t → length t < 2 ^ 64 - 1 → offer_reply b (hosts_after b piece t) (running_host (hosts_after b piece t)) ≢ reply.EpochEnd
 epochs_last b piece t in_turn short =
     host_where_cases is_running (hosts_after b piece t) (λ found. HasEpoch (offer_reply b (hosts_after b piece t) found))
     (λ n is. some_epoch b (hosts_after b piece t) n (let le = low_at (hosts_after b piece t) (length t) n (run_low b piece t in_turn) in omega (arith, le, short))) (λ wrong. cc)

@@ -3,23 +3,23 @@ use Rattle.std.proofs.Common.{◌≡◌, ℕ, zero, suc, ◌≤◌, ◌<◌, ◌
 use Rattle.std.specs.Prelude.{Option, nat_lt, nat_le, ◌==◌}
 use Rattle.std.proofs.lemmas.Bool.{cond_both}
 use Rattle.std.proofs.lemmas.Bool.Decides.{nat_tests}
-use Rattle.vt_base.specs.declared.words.Kind.TheVariants as kind
+use Rattle.vt_base.specs.declared.types.Kind.TheVariants as kind
 use Rattle.crb_machine.specs.Values.{DeviceValues}
-use Rattle.device_record.specs.Records.{record_text, trimmed}
-use Rattle.device_record.proofs.Trims.{length-trimmed, trimmed_front}
-use Rattle.device_record.proofs.Values.{length-record_text}
+use Rattle.device_record.specs.Records.{encode_record, trimmed}
+use Rattle.device_record.proofs.Trims.{length-trimmed, trimmed_prefix}
+use Rattle.device_record.proofs.Values.{length-encode_record}
 use Rattle.state_blobs.proofs.Sizes.{text_least, text_most}
-use Rattle.tpm_core.specs.Steps.{IsFit}
+use Rattle.tpm_core.specs.Steps.{IsValid}
 use Rattle.tpm_core.proofs.Law.{fit-past}
 use Rattle.vt_script.specs.declared.event.Event.{Event}
 use Rattle.vt_script.specs.declared.event.Event.TheVariants as line
 use Rattle.vt_script.specs.declared.reply.Reply.{Reply}
-use Rattle.crb_history.specs.Base.{Base, IsFitBase}
+use Rattle.crb_history.specs.Snapshot.{Snapshot, IsValidSnapshot}
 use Rattle.crb_history.specs.Bytes.{bytes_at}
 use Rattle.crb_history.specs.Event.{History}
-use Rattle.crb_history.specs.Continued.{base_after, content_after}
+use Rattle.crb_history.specs.Continued.{snapshot_after, content_after}
 use Rattle.crb_history.specs.Device.{executed, buffer}
-use Rattle.move_codec.specs.declared.names.HostName.{HostName}
+use Rattle.vt_base.specs.declared.types.HostName.{HostName}
 use Rattle.move_codec.specs.declared.names.Part.TheVariants.{Record, Permanent, Volatile, Saved}
 use Rattle.move_codec.specs.declared.message.Message.{Message}
 use Rattle.move_core.specs.Sides.{first_bad, is_bad}
@@ -27,11 +27,11 @@ use Rattle.vt_script.specs.declared.event.Event.TheVariants.{Offer, Deliver, Giv
 use Rattle.vt_script.specs.declared.reply.Reply.TheVariants as reply
 use Rattle.two_hosts.specs.Parts.{part_bytes, totals_of}
 use Rattle.two_hosts.specs.Hosts.{TwoHosts, hosts_after, host_where, running_host, is_offering, is_prepared, message_at, after_delivery, after_offer, after_give_up, after_again, guest_line_on_any, after_line, after_exchange, with_offer}
-use Rattle.crb_history.specs.Replies.{Transcript}
+use Rattle.vt_transcript.specs.Replies.{Transcript}
 use Rattle.two_hosts.proofs.Refusals.{GoodTotals}
 
-record_size : (v : DeviceValues) → length (record_text v) ≡ 23 + length (trimmed v.content)
-record_size v = length-record_text v (length (trimmed v.content)) v.content refl (trimmed_front v.content) (length-trimmed v.content)
+record_size : (v : DeviceValues) → length (encode_record v) ≡ 23 + length (trimmed v.content)
+record_size v = length-encode_record v (length (trimmed v.content)) v.content refl (trimmed_prefix v.content) (length-trimmed v.content)
 
 good : (n : ℕ) → 0 < n → n ≤ 4096 → is_bad n ≡ false
 good n some most =
@@ -42,9 +42,9 @@ good n some most =
 none_bad : (a b c d : ℕ) → is_bad a ≡ false → is_bad b ≡ false → is_bad c ≡ false → is_bad d ≡ false → first_bad (a ∷ b ∷ c ∷ d ∷ []) ≡ None
 none_bad a b c d p q r s = rw (p, q, r, s) refl
 
-totals_good : (v : Base) → length v.device.content ≤ 3968 → IsFit v.tpm → first_bad (totals_of v) ≡ None
+totals_good : (v : Snapshot) → length v.device.content ≤ 3968 → IsValid v.tpm → first_bad (totals_of v) ≡ None
 totals_good v size fit = none_bad (length (part_bytes v Record)) (length (part_bytes v Permanent)) (length (part_bytes v Volatile)) (length (part_bytes v Saved))
-    (good (length (record_text v.device)) (omega (arith, record_size v.device)) (omega (arith, record_size v.device, length-trimmed v.device.content, size)))
+    (good (length (encode_record v.device)) (omega (arith, record_size v.device)) (omega (arith, record_size v.device, length-trimmed v.device.content, size)))
     (good (length (part_bytes v Permanent)) (omega (arith, text_least kind.Permanent v.tpm)) (omega (arith, text_most kind.Permanent v.tpm fit)))
     (good (length (part_bytes v Volatile)) (omega (arith, text_least kind.Volatile v.tpm)) (omega (arith, text_most kind.Volatile v.tpm fit)))
     (good (length (part_bytes v Saved)) (omega (arith, text_least kind.Saved v.tpm)) (omega (arith, text_most kind.Saved v.tpm fit)))
@@ -53,24 +53,24 @@ length_bytes : (byte : ℕ → ℕ) (at size : ℕ) → length (bytes_at byte at
 length_bytes byte at zero = refl
 length_bytes byte at (suc size) = omega (arith, length_bytes byte (at + 1) size)
 
-content_size : (b : Base) (p : History) → length (content_after b p) ≡ 3968
+content_size : (b : Snapshot) (p : History) → length (content_after b p) ≡ 3968
 unfolding content_after
 content_size b p = length_bytes (buffer b p) 0 3968
 
-first_good : (b : Base) → IsFitBase b → first_bad (totals_of b) ≡ None
+first_good : (b : Snapshot) → IsValidSnapshot b → first_bad (totals_of b) ≡ None
 first_good b fit = totals_good b (omega (arith, fit.device.size)) fit.tpm
 
-pub later_good : (b : Base) (p : History) → IsFitBase b → first_bad (totals_of (base_after b p)) ≡ None
-later_good b p fit = totals_good (base_after b p) (omega (arith, content_size b p)) (fit-past b.tpm (executed b p) fit.tpm)
+pub later_good : (b : Snapshot) (p : History) → IsValidSnapshot b → first_bad (totals_of (snapshot_after b p)) ≡ None
+later_good b p fit = totals_good (snapshot_after b p) (omega (arith, content_size b p)) (fit-past b.tpm (executed b p) fit.tpm)
 
 -- ---- every line
 
-offered_good : (offered : ℕ → Base) (e : ℕ) (v : Base) → first_bad (totals_of v) ≡ None → GoodTotals offered → GoodTotals (with_offer offered e v)
-offered_good offered e v new old d = cond_both (d == e) v (offered d) (λ (w : Base). first_bad (totals_of w) ≡ None) (λ yes. new) (λ no. old d)
+offered_good : (offered : ℕ → Snapshot) (e : ℕ) (v : Snapshot) → first_bad (totals_of v) ≡ None → GoodTotals offered → GoodTotals (with_offer offered e v)
+offered_good offered e v new old d = cond_both (d == e) v (offered d) (λ (w : Snapshot). first_bad (totals_of w) ≡ None) (λ yes. new) (λ no. old d)
 
-offer_good : (b : Base) (t : TwoHosts) (found : Option HostName) (q : Reply) → IsFitBase b → GoodTotals t.offered → GoodTotals (after_offer b t found q).offered
+offer_good : (b : Snapshot) (t : TwoHosts) (found : Option HostName) (q : Reply) → IsValidSnapshot b → GoodTotals t.offered → GoodTotals (after_offer b t found q).offered
 offer_good b t None q fit old = old
-offer_good b t (Some n) (reply.Offered e m) fit old = offered_good t.offered _ (base_after b t.history) (later_good b t.history fit) old
+offer_good b t (Some n) (reply.Offered e m) fit old = offered_good t.offered _ (snapshot_after b t.history) (later_good b t.history fit) old
 offer_good b t (Some n) _ fit old = old
 
 delivery_good : (piece : ℕ) (t : TwoHosts) (found : Option Message) (q : Reply) → GoodTotals t.offered → GoodTotals (after_delivery piece t found q).offered
@@ -85,11 +85,11 @@ again_good : (t : TwoHosts) (found : Option HostName) → GoodTotals t.offered �
 again_good t None old = old
 again_good t (Some n) old = old
 
-any_good : (b : Base) (t : TwoHosts) (found : Option HostName) (e : Event) (g : Reply) → GoodTotals t.offered → GoodTotals (guest_line_on_any b t found e g).offered
+any_good : (b : Snapshot) (t : TwoHosts) (found : Option HostName) (e : Event) (g : Reply) → GoodTotals t.offered → GoodTotals (guest_line_on_any b t found e g).offered
 any_good b t None e g old = old
 any_good b t (Some n) e g old = old
 
-pub line_good : (b : Base) (piece : ℕ) (t : TwoHosts) (l : Event) (q : Reply) → IsFitBase b → GoodTotals t.offered → GoodTotals (after_line b piece t l q).offered
+pub line_good : (b : Snapshot) (piece : ℕ) (t : TwoHosts) (l : Event) (q : Reply) → IsValidSnapshot b → GoodTotals t.offered → GoodTotals (after_line b piece t l q).offered
 line_good b piece t (line.Access a) q fit old = any_good b t (running_host t) (line.Access a) q old
 line_good b piece t line.Work q fit old = any_good b t (running_host t) line.Work q old
 line_good b piece t line.Ask q fit old = any_good b t (running_host t) line.Ask q old
@@ -101,10 +101,10 @@ line_good b piece t GiveUp q fit old = give_up_good t (host_where is_offering t)
 line_good b piece t Again q fit old = again_good t (host_where is_prepared t) old
 line_good b piece t (Show k) q fit old = old
 
-exchange_good : (b : Base) (piece : ℕ) (t : TwoHosts) (l : Option Event) (q : Reply) → IsFitBase b → GoodTotals t.offered → GoodTotals (after_exchange b piece t l q).offered
+exchange_good : (b : Snapshot) (piece : ℕ) (t : TwoHosts) (l : Option Event) (q : Reply) → IsValidSnapshot b → GoodTotals t.offered → GoodTotals (after_exchange b piece t l q).offered
 exchange_good b piece t None q fit old = old
 exchange_good b piece t (Some l) q fit old = line_good b piece t l q fit old
 
-pub run_good : (b : Base) (piece : ℕ) (t : Transcript) → IsFitBase b → GoodTotals (hosts_after b piece t).offered
+pub run_good : (b : Snapshot) (piece : ℕ) (t : Transcript) → IsValidSnapshot b → GoodTotals (hosts_after b piece t).offered
 run_good b piece [] fit = λ e. first_good b fit
 run_good b piece (x ∷ t) fit = exchange_good b piece (hosts_after b piece t) x.line x.reply fit (run_good b piece t fit)

@@ -3,12 +3,12 @@ use Rattle.std.proofs.Common.{◌≡◌, ℕ, zero, suc, ◌+◌, ◌-◌, ◌*�
 use Rattle.std.specs.Prelude.{nat_lt, ◌==◌, ◌^◌}
 use Rattle.std.proofs.lemmas.Bool.{cond-true, cond-false, eq-eqb, ne_eqb, lt-ltb, cases_lt}
 use Rattle.crb_regs.specs.Registers.{is_lost}
-use Rattle.crb_history.specs.Base.{Base, IsFitBase}
-use Rattle.crb_history.specs.Continued.{base_after}
+use Rattle.crb_history.specs.Snapshot.{Snapshot, IsValidSnapshot}
+use Rattle.crb_history.specs.Continued.{snapshot_after}
 use Rattle.crb_history.specs.Device.{phase_of}
-use Rattle.crb_history.specs.Replies.{is_under_way, reaches, Transcript}
-use Rattle.move_codec.specs.declared.names.HostName.{HostName}
-use Rattle.move_codec.specs.declared.names.HostName.TheVariants.{A, B}
+use Rattle.vt_transcript.specs.Replies.{is_under_way, reaches, Transcript}
+use Rattle.vt_base.specs.declared.types.HostName.{HostName}
+use Rattle.vt_base.specs.declared.types.HostName.TheVariants.{A, B}
 use Rattle.move_codec.specs.declared.names.Part.TheVariants.{Record}
 use Rattle.move_codec.specs.declared.message.Body.TheVariants as body
 use Rattle.move_core.specs.declared.stage.MoveStage.{MoveStage}
@@ -31,7 +31,7 @@ use Rattle.std.proofs.lemmas.List.{length_push}
 use Rattle.two_hosts.proofs.RestActs as rest
 use Rattle.two_hosts.proofs.Totals.{later_good}
 use Rattle.two_hosts.proofs.Counts.{left_at_first, all_good}
-use Rattle.two_hosts.proofs.LastTurns.{Works, Last, Turned, Ran, last_pushed, last_reply, turn_last, often, often_more, turned, ran}
+use Rattle.two_hosts.proofs.LastTurns.{WorkerStep, Last, Turned, Ran, last_pushed, last_reply, turn_last, often, often_more, turned, ran}
 use Rattle.two_hosts.proofs.Moving.{fills, Moving, Ended, carries_on}
 
 -- ---- the offer
@@ -39,7 +39,7 @@ use Rattle.two_hosts.proofs.Moving.{fills, Moving, Ended, carries_on}
 unreached : (injected : Option ℕ) (count : ℕ) → injected ≡ None → reaches injected count ≡ false
 unreached injected count none = ap (λ order. reaches order count) none
 
-pub offer_replied : (b : Base) (w : TwoHosts) (n : HostName) → CanOffer b w n → offer_reply b w (running_host w) ≡ reply.Offered ((host_of w n).side.top + 1) (next_number w.sent)
+pub offer_replied : (b : Snapshot) (w : TwoHosts) (n : HostName) → CanOffer b w n → offer_reply b w (running_host w) ≡ reply.Offered ((host_of w n).side.top + 1) (next_number w.sent)
 offer_replied b w n can =
     ap (offer_reply b w) can.runs
     ∙ cond-false (is_lost (phase_of b w.history)) _ _ can.working
@@ -65,7 +65,7 @@ passive_off (stage.Prepared d) is = refl
 passive_off stage.Running is = absurd is
 passive_off (stage.Offering d totals) is = absurd is
 
-beside : (b : Base) (w : TwoHosts) (n : HostName) → HostsInvariant b w → (side_at w n).stage ≡ stage.Running → Beside w n
+beside : (b : Snapshot) (w : TwoHosts) (n : HostName) → HostsInvariant b w → (side_at w n).stage ≡ stage.Running → Beside w n
 beside b w n kept is = record { passive = passive_off (stage_at w (other n)) (alone b w kept n (ap (λ g. active_on (side_of g)) is)); order = low n is kept }
   where
     low : (n : HostName) → (side_at w n).stage ≡ stage.Running → HostsInvariant b w → (side_at w (other n)).top ≤ (side_at w n).top
@@ -74,31 +74,31 @@ beside b w n kept is = record { passive = passive_off (stage_at w (other n)) (al
     low A at (B, k) = absurd (rest.rests B A w.b.side w.a.side w.offered _ w.sent k Running (ap side_of at))
     low B at (A, k) = absurd (rest.rests A B w.a.side w.b.side w.offered _ w.sent k Running (ap side_of at))
 
-works_both : (w : TwoHosts) (n : HostName) → (host_of w n).injected_fault ≡ None → (host_of w (other n)).injected_fault ≡ None → Works w
+works_both : (w : TwoHosts) (n : HostName) → (host_of w n).injected_fault ≡ None → (host_of w (other n)).injected_fault ≡ None → WorkerStep w
 works_both w A here there A = here
 works_both w A here there B = there
 works_both w B here there A = there
 works_both w B here there B = here
 
-offer_works : (v : Base) (w : TwoHosts) (n : HostName) → Works w → Works (offered_by v w n)
+offer_works : (v : Snapshot) (w : TwoHosts) (n : HostName) → WorkerStep w → WorkerStep (offered_by v w n)
 offer_works v w A works A = works A
 offer_works v w A works B = works B
 offer_works v w B works A = works A
 offer_works v w B works B = works B
 
-offer_acted : (v : Base) (w : TwoHosts) (n : HostName) → (side_at (offered_by v w n) n).stage ≡ stage.Offering ((host_of w n).side.top + 1) (totals_of v)
+offer_acted : (v : Snapshot) (w : TwoHosts) (n : HostName) → (side_at (offered_by v w n) n).stage ≡ stage.Offering ((host_of w n).side.top + 1) (totals_of v)
 offer_acted v w A = refl
 offer_acted v w B = refl
 
-offer_still : (v : Base) (w : TwoHosts) (n : HostName) → side_at (offered_by v w n) (other n) ≡ side_at w (other n)
+offer_still : (v : Snapshot) (w : TwoHosts) (n : HostName) → side_at (offered_by v w n) (other n) ≡ side_at w (other n)
 offer_still v w A = refl
 offer_still v w B = refl
 
 -- ---- from the offer to the running target
 
-module _ (b : Base) (piece : ℕ) (w : TwoHosts) (n : HostName) (fit : IsFitBase b) (kept : HostsInvariant b w) (can : CanMove b piece w n) where
-  abbrev v : Base
-  v = base_after b w.history
+module _ (b : Snapshot) (piece : ℕ) (w : TwoHosts) (n : HostName) (fit : IsValidSnapshot b) (kept : HostsInvariant b w) (can : CanMove b piece w n) where
+  abbrev v : Snapshot
+  v = snapshot_after b w.history
 
   abbrev e : ℕ
   e = (host_of w n).side.top + 1
@@ -193,25 +193,25 @@ module _ (b : Base) (piece : ℕ) (w : TwoHosts) (n : HostName) (fit : IsFitBase
 
 -- ---- transcripts
 
-hosts_often : (b : Base) (piece : ℕ) (u : Transcript) (k : ℕ) → hosts_after b piece (deliveries b piece k u) ≡ often piece k (hosts_after b piece u)
+hosts_often : (b : Snapshot) (piece : ℕ) (u : Transcript) (k : ℕ) → hosts_after b piece (deliveries b piece k u) ≡ often piece k (hosts_after b piece u)
 hosts_often b piece u zero = refl
 hosts_often b piece u (suc k) = ap (turn_last piece) (hosts_often b piece u k)
 
-often_in_turn : (b : Base) (piece : ℕ) (u : Transcript) (k : ℕ) → InTurn b piece u → InTurn b piece (deliveries b piece k u)
+often_in_turn : (b : Snapshot) (piece : ℕ) (u : Transcript) (k : ℕ) → InTurn b piece u → InTurn b piece (deliveries b piece k u)
 often_in_turn b piece u zero in_turn = in_turn
 often_in_turn b piece u (suc k) in_turn = (often_in_turn b piece u k in_turn, refl)
 
-offered_is : (b : Base) (piece : ℕ) (t : Transcript) (n : HostName) → CanOffer b (hosts_after b piece t) n → hosts_after b piece (offer_now b piece t ∷ t) ≡ offered_by (base_after b (hosts_after b piece t).history) (hosts_after b piece t) n
+offered_is : (b : Snapshot) (piece : ℕ) (t : Transcript) (n : HostName) → CanOffer b (hosts_after b piece t) n → hosts_after b piece (offer_now b piece t ∷ t) ≡ offered_by (snapshot_after b (hosts_after b piece t).history) (hosts_after b piece t) n
 offered_is b piece t n can =
     let w = hosts_after b piece t in
     ap (after_offer b (hosts_after b piece t) (running_host (hosts_after b piece t))) (offer_replied b (hosts_after b piece t) n can)
     ∙ ap (λ found. after_offer b (hosts_after b piece t) found (reply.Offered ((host_of (hosts_after b piece t) n).side.top + 1) (next_number (hosts_after b piece t).sent))) can.runs
 
-one_more : (b : Base) (piece : ℕ) (t : Transcript) (n : HostName) → CanOffer b (hosts_after b piece t) n → length (hosts_after b piece (offer_now b piece t ∷ t)).sent ≡ length (hosts_after b piece t).sent + 1
-one_more b piece t n can = ap (λ (w : TwoHosts). length w.sent) (offered_is b piece t n can) ∙ length_push (hosts_after b piece t).sent (offer_message n (base_after b (hosts_after b piece t).history) (host_of (hosts_after b piece t) n))
+one_more : (b : Snapshot) (piece : ℕ) (t : Transcript) (n : HostName) → CanOffer b (hosts_after b piece t) n → length (hosts_after b piece (offer_now b piece t ∷ t)).sent ≡ length (hosts_after b piece t).sent + 1
+one_more b piece t n can = ap (λ (w : TwoHosts). length w.sent) (offered_is b piece t n can) ∙ length_push (hosts_after b piece t).sent (offer_message n (snapshot_after b (hosts_after b piece t).history) (host_of (hosts_after b piece t) n))
 
-pub moves_over : (b : Base) (piece : ℕ) (t : Transcript) (n : HostName) → IsFitBase b → InTurn b piece t → CanMove b piece (hosts_after b piece t) n
-    → MovesOver b piece (offer_now b piece t ∷ t) n (pieces piece (base_after b (hosts_after b piece t).history))
+pub moves_over : (b : Snapshot) (piece : ℕ) (t : Transcript) (n : HostName) → IsValidSnapshot b → InTurn b piece t → CanMove b piece (hosts_after b piece t) n
+    → MovesOver b piece (offer_now b piece t ∷ t) n (pieces piece (snapshot_after b (hosts_after b piece t).history))
 moves_over b piece t n fit in_turn can = record {
   sends = λ k low. ap (last_reply piece) (reached k) ∙ each_sent b piece (hosts_after b piece t) n fit kept can k low ∙ ap (λ size. reply.SentMessage (size + 1 + k)) (sym (one_more b piece t n can.offers));
   runs = ap (last_reply piece) (reached (2 * count + 2)) ∙ last_is_running b piece (hosts_after b piece t) n fit kept can;
@@ -220,10 +220,10 @@ moves_over b piece t n fit in_turn can = record {
 }
   where
     count : ℕ
-    count = pieces piece (base_after b (hosts_after b piece t).history)
+    count = pieces piece (snapshot_after b (hosts_after b piece t).history)
 
     kept : HostsInvariant b (hosts_after b piece t)
     kept = run_kept b piece t in_turn
 
-    reached : (k : ℕ) → hosts_after b piece (deliveries b piece k (offer_now b piece t ∷ t)) ≡ often piece k (offered_by (base_after b (hosts_after b piece t).history) (hosts_after b piece t) n)
+    reached : (k : ℕ) → hosts_after b piece (deliveries b piece k (offer_now b piece t ∷ t)) ≡ often piece k (offered_by (snapshot_after b (hosts_after b piece t).history) (hosts_after b piece t) n)
     reached k = hosts_often b piece (offer_now b piece t ∷ t) k ∙ ap (often piece k) (offered_is b piece t n can.offers)

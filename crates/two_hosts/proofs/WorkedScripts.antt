@@ -5,17 +5,17 @@ use Rattle.vt_script.specs.declared.event.Event.{Event}
 use Rattle.vt_script.specs.declared.event.Event.TheVariants.{Access, Work, Ask as AskLine, Reset as ResetLine, Offer, Deliver, GiveUp, Again, Show, Fail}
 use Rattle.vt_script.specs.declared.reply.Reply.{Reply}
 use Rattle.vt_script.specs.declared.reply.Reply.TheVariants as reply
-use Rattle.device_record.specs.Records.{record_text}
-use Rattle.state_blobs.specs.Texts.{text_of}
+use Rattle.device_record.specs.Records.{encode_record}
+use Rattle.state_blobs.specs.Encodings.{encode_blob}
 use Rattle.crb_machine.specs.Values.{fresh_device}
-use Rattle.crb_history.specs.Base.{Base, fresh}
+use Rattle.crb_history.specs.Snapshot.{Snapshot, fresh}
 use Rattle.crb_history.specs.Event.{History}
-use Rattle.crb_history.specs.Replies.{Exchange, Transcript}
+use Rattle.vt_transcript.specs.Replies.{Exchange, Transcript}
 use Rattle.crb_history.specs.Legal.{Legal}
-use Rattle.crb_history.specs.Continued.{base_after}
-use Rattle.crb_history.specs.Device.Stage.{Waiting, HasSent}
-use Rattle.move_codec.specs.declared.names.HostName.{HostName}
-use Rattle.move_codec.specs.declared.names.HostName.TheVariants.{A, B}
+use Rattle.crb_history.specs.Continued.{snapshot_after}
+use Rattle.crb_history.specs.Device.JobStage.{Waiting, HasSent}
+use Rattle.vt_base.specs.declared.types.HostName.{HostName}
+use Rattle.vt_base.specs.declared.types.HostName.TheVariants.{A, B}
 use Rattle.move_codec.specs.declared.names.Reason.TheVariants as reason
 use Rattle.move_codec.specs.declared.message.Message.{Message}
 use Rattle.two_hosts.specs.Hosts.{TwoHosts, first_hosts, hosts_after, running_host, offered_by, after_offer, after_exchange, next_number, message_at, bag_size}
@@ -36,41 +36,41 @@ said line r = record { line = Some line; reply = r }
 -- ---- With another function for the values at the end of a history, since those of a whole buffer take too many steps to compute
 -- here. With the function of the definitions it is `hosts_after` itself (`same_hosts`).
 
-abbrev offered_with : Base → TwoHosts → Option HostName → TwoHosts
+abbrev offered_with : Snapshot → TwoHosts → Option HostName → TwoHosts
 offered_with values t None = t
 offered_with values t (Some n) = offered_by values t n
 
-abbrev exchanged_with : (History → Base) → Base → ℕ → TwoHosts → Option Event → Reply → TwoHosts
+abbrev exchanged_with : (History → Snapshot) → Snapshot → ℕ → TwoHosts → Option Event → Reply → TwoHosts
 exchanged_with save b piece t (Some Offer) (reply.Offered epoch message) = offered_with (save t.history) t (running_host t)
 exchanged_with save b piece t line r = after_exchange b piece t line r
 
-abbrev hosts_with : (History → Base) → Base → ℕ → Transcript → TwoHosts
+abbrev hosts_with : (History → Snapshot) → Snapshot → ℕ → Transcript → TwoHosts
 hosts_with save b piece [] = first_hosts b
 hosts_with save b piece (y ∷ t) = exchanged_with save b piece (hosts_with save b piece t) y.line y.reply
 
-abbrev InTurnBy : (History → Base) → Base → ℕ → Transcript → Type 0
+abbrev InTurnBy : (History → Snapshot) → Snapshot → ℕ → Transcript → Type 0
 InTurnBy save b piece [] = ⊤
 InTurnBy save b piece (y ∷ t) = InTurnBy save b piece t × AnswersIn b piece (hosts_with save b piece t) y.line y.reply
 
-record IsRunBy (save : History → Base) (b : Base) (piece : ℕ) (t : Transcript) : Type 0 where
+record IsRunBy (save : History → Snapshot) (b : Snapshot) (piece : ℕ) (t : Transcript) : Type 0 where
   legal : Legal b (hosts_with save b piece t).history
   in_turn : InTurnBy save b piece t
 
-same_exchange : (b : Base) (piece : ℕ) (t : TwoHosts) (line : Option Event) (r : Reply) → exchanged_with (base_after b) b piece t line r ≡ after_exchange b piece t line r
+same_exchange : (b : Snapshot) (piece : ℕ) (t : TwoHosts) (line : Option Event) (r : Reply) → exchanged_with (snapshot_after b) b piece t line r ≡ after_exchange b piece t line r
 same_exchange b piece t (Some Offer) (reply.Offered epoch message) = go (running_host t)
   where
-    go : (n : Option HostName) → offered_with (base_after b t.history) t n ≡ after_offer b t n (reply.Offered epoch message)
+    go : (n : Option HostName) → offered_with (snapshot_after b t.history) t n ≡ after_offer b t n (reply.Offered epoch message)
     go None = refl
     go (Some n) = refl
 same_exchange b piece t _ _ = refl
 
-same_hosts : (b : Base) (piece : ℕ) (t : Transcript) → hosts_with (base_after b) b piece t ≡ hosts_after b piece t
+same_hosts : (b : Snapshot) (piece : ℕ) (t : Transcript) → hosts_with (snapshot_after b) b piece t ≡ hosts_after b piece t
 same_hosts b piece [] = refl
 same_hosts b piece (y ∷ t) = rw (same_hosts b piece t) (same_exchange b piece (hosts_after b piece t) y.line y.reply)
 
 -- A fresh device over a TPM whose seed is zeros. The empty list stands for the zeros of the buffer: the byte at each place is
 -- the same.
-abbrev blank : Base
+abbrev blank : Snapshot
 blank = record (fresh (replicate 32 0)) { device = record fresh_device { content = [] } }
 
 -- An offer waits for a command that is claimed; then no line of the guest is answered.
@@ -94,7 +94,7 @@ offers_wait_for_commands : IsRunBy (λ history. blank) blank 4096 (
     said (Access (record { offset = 64; size = 4; write = Some 1 })) reply.Accepted ∷
     said (Access (record { offset = 8; size = 4; write = Some 1 })) reply.Accepted ∷
     [])
-unfolding record_text text_of bag_size
+unfolding encode_record encode_blob bag_size
 offers_wait_for_commands = record { legal = ((((((((((tt, tt), tt), tt), tt), tt), tt), record { executing = refl; reached = refl }), record { executing = refl; reached = refl }), record { executing = refl; reached = refl }), record { executing = refl; reached = refl }); in_turn = (((((((((((((((tt, refl), refl), refl), refl), refl), refl), refl), refl), refl), refl), refl), rw never refl), refl), refl), refl) }
 
 -- A whole move: message 10 is Prepared, message 11 is Commit.
@@ -116,7 +116,7 @@ whole_move : IsRunBy (λ history. blank) blank 4096 (
     said (Deliver 1) (reply.SentMessage 2) ∷
     said Offer (reply.Offered 1 1) ∷
     [])
-unfolding record_text text_of bag_size
+unfolding encode_record encode_blob bag_size
 whole_move = record { legal = (tt, (lit≤ tt, refl)); in_turn = (((((((((((((tt, refl), refl), refl), refl), refl), refl), refl), refl), refl), refl), refl), refl), (refl, refl)) }
 
 -- The offer is given up before the Prepared comes.
@@ -140,7 +140,7 @@ given_up_before_the_commit : IsRunBy (λ history. blank) blank 4096 (
     said (Deliver 1) (reply.SentMessage 2) ∷
     said Offer (reply.Offered 1 1) ∷
     [])
-unfolding record_text text_of bag_size
+unfolding encode_record encode_blob bag_size
 given_up_before_the_commit = record { legal = (tt, (lit≤ tt, refl)); in_turn = (((((((((((((((tt, refl), refl), refl), refl), refl), refl), refl), refl), refl), refl), refl), refl), (refl, refl)), refl), refl) }
 
 -- The Commit is late; the target says again that it is prepared, and gets another one.
@@ -168,7 +168,7 @@ commit_sent_again : IsRunBy (λ history. blank) blank 4096 (
     said (Deliver 1) (reply.SentMessage 2) ∷
     said Offer (reply.Offered 1 1) ∷
     [])
-unfolding record_text text_of bag_size
+unfolding encode_record encode_blob bag_size
 commit_sent_again = record { legal = (tt, (lit≤ tt, refl)); in_turn = ((((((((((((((((((tt, refl), refl), refl), refl), refl), refl), refl), refl), refl), refl), refl), refl), refl), refl), refl), (refl, refl)), refl), refl) }
 
 -- There and back; then messages that come too late, and one that was never sent.
@@ -208,7 +208,7 @@ there_and_back : IsRunBy (λ history. blank) blank 4096 (
     said (Deliver 1) (reply.SentMessage 2) ∷
     said Offer (reply.Offered 1 1) ∷
     [])
-unfolding record_text text_of bag_size
+unfolding encode_record encode_blob bag_size
 there_and_back = record { legal = (tt, (lit≤ tt, refl)); in_turn = ((((((((((((((((((((((((((((tt, refl), refl), refl), refl), refl), refl), refl), refl), refl), refl), refl), refl), (refl, refl)), refl), refl), refl), refl), refl), refl), refl), refl), refl), refl), refl), refl), refl), refl), refl) }
 
 -- The bytes of an Offer.
@@ -217,7 +217,7 @@ offer_shown : IsRunBy (λ history. blank) blank 4096 (
     said (Show 1) (reply.Shown (67 ∷ 82 ∷ 66 ∷ 77 ∷ 1 ∷ 0 ∷ 0 ∷ 0 ∷ 26 ∷ 1 ∷ 1 ∷ 0 ∷ 0 ∷ 0 ∷ 0 ∷ 0 ∷ 0 ∷ 0 ∷ 1 ∷ 0 ∷ 0 ∷ 0 ∷ 23 ∷ 0 ∷ 0 ∷ 0 ∷ 49 ∷ 0 ∷ 0 ∷ 0 ∷ 10 ∷ 0 ∷ 0 ∷ 0 ∷ 10 ∷ [])) ∷
     said Offer (reply.Offered 1 1) ∷
     [])
-unfolding record_text text_of bag_size
+unfolding encode_record encode_blob bag_size
 offer_shown = record { legal = tt; in_turn = ((tt, refl), refl) }
 
 -- A call fails while a command is sent: the device is lost for good.
@@ -242,7 +242,7 @@ command_lost : IsRunBy (λ history. blank) blank 4096 (
     said (Access (record { offset = 8; size = 4; write = Some 1 })) reply.Accepted ∷
     said (Fail A 2) reply.Accepted ∷
     [])
-unfolding record_text text_of bag_size
+unfolding encode_record encode_blob bag_size
 command_lost = record { legal = (((((((((((((tt, tt), tt), tt), tt), tt), tt), record { executing = refl; reached = refl }), record { executing = refl; reached = refl }), record { executing = refl; claimed = λ is. sent_waits is }), (lit≤ tt, refl)), (lit≤ tt, refl)), tt), (lit≤ tt, refl)); in_turn = ((((((((((((((((tt, refl), refl), refl), refl), refl), refl), refl), refl), refl), refl), (refl, refl)), (refl, refl)), refl), (refl, refl)), refl), refl) }
 
 -- A call fails in an offer, and one in its delivery.
@@ -259,7 +259,7 @@ calls_fail : IsRunBy (λ history. blank) blank 4096 (
     said Offer reply.Link ∷
     said (Fail A 1) reply.Accepted ∷
     [])
-unfolding record_text text_of bag_size
+unfolding encode_record encode_blob bag_size
 calls_fail = record { legal = (tt, (lit≤ tt, refl)); in_turn = (((((((((tt, refl), refl), (refl, refl)), refl), refl), refl), refl), refl), refl) }
 
 -- A call of the source fails: the message is delivered once more.
@@ -275,7 +275,7 @@ source_fails : IsRunBy (λ history. blank) blank 4096 (
     said Offer (reply.Offered 1 1) ∷
     said (Fail A 10) reply.Accepted ∷
     [])
-unfolding record_text text_of bag_size
+unfolding encode_record encode_blob bag_size
 source_fails = record { legal = tt; in_turn = ((((((((tt, refl), refl), refl), refl), refl), refl), refl), refl) }
 
 -- The fifth call for the last piece fails.
@@ -299,7 +299,7 @@ last_piece_fails : IsRunBy (λ history. blank) blank 4096 (
     said Offer (reply.Offered 1 1) ∷
     said (Fail B 13) reply.Accepted ∷
     [])
-unfolding record_text text_of bag_size
+unfolding encode_record encode_blob bag_size
 last_piece_fails = record { legal = (tt, (lit≤ tt, refl)); in_turn = (((((((((((((((tt, refl), refl), refl), refl), refl), refl), refl), refl), refl), refl), refl), refl), refl), refl), (refl, refl)) }
 
 -- A fault that a whole move doesn't reach waits for the next one.
@@ -328,7 +328,7 @@ fault_waits : IsRunBy (λ history. blank) blank 4096 (
     said Offer (reply.Offered 1 1) ∷
     said (Fail B 14) reply.Accepted ∷
     [])
-unfolding record_text text_of bag_size
+unfolding encode_record encode_blob bag_size
 fault_waits = record { legal = ((tt, tt), tt); in_turn = (((((((((((((((((((tt, refl), refl), refl), refl), refl), refl), refl), refl), refl), refl), refl), refl), refl), refl), refl), refl), refl), refl), refl) }
 
 -- Either call of an ask fails.
@@ -340,7 +340,7 @@ asks_fail : IsRunBy (λ history. blank) blank 4096 (
     said AskLine reply.Link ∷
     said (Fail A 1) reply.Accepted ∷
     [])
-unfolding record_text text_of bag_size
+unfolding encode_record encode_blob bag_size
 asks_fail = record { legal = (((tt, tt), tt), tt); in_turn = (((((tt, refl), refl), refl), refl), refl) }
 
 -- ---- the bag

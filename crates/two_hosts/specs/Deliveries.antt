@@ -1,10 +1,10 @@
 -- The table of deliveries between two hosts: what a message makes of its receiver's side, and the answer. The bytes of a
 -- Piece are those of the values that were offered; nothing else of a device or a TPM is looked at. (Own definitions.)
 use Rattle.std.specs.Prelude.{ℕ, ◌+◌, ◌==◌, ◌&&◌, Bool, true, false, nat_lt, if◌then◌else◌, List, length, Option, Some, None}
-use Rattle.state_blobs.specs.Texts.{slice}
-use Rattle.crb_history.specs.Base.{Base}
+use Rattle.state_blobs.specs.Encodings.{slice}
+use Rattle.crb_history.specs.Snapshot.{Snapshot}
 use Rattle.ctrl_client.specs.declared.fault.ClientFault.TheVariants.{Link}
-use Rattle.move_codec.specs.declared.names.HostName.{HostName}
+use Rattle.vt_base.specs.declared.types.HostName.{HostName}
 use Rattle.move_codec.specs.declared.names.Part.{Part}
 use Rattle.move_codec.specs.declared.names.Part.TheVariants.{Record}
 use Rattle.move_codec.specs.declared.names.Reason.{Reason}
@@ -34,7 +34,7 @@ pub record Outcome : Type 0 where
 pub record DeliveryContext : Type 0 where
   pub me : HostName
   pub piece : ℕ
-  pub offered : ℕ → Base
+  pub offered : ℕ → Snapshot
   pub fails : Bool
 
 abbrev pub answers : SideState → Delivered → Outcome

@@ -4,12 +4,12 @@ use Rattle.std.specs.Prelude.{ℕ, zero, suc, ◌+◌, ◌==◌, Bool, true, fal
 use Rattle.vt_script.specs.declared.event.Event.{Event}
 use Rattle.vt_script.specs.declared.event.Event.TheVariants.{Access, Work, Ask, Reset, Offer, Deliver, GiveUp, Again, Show, Fail}
 use Rattle.vt_script.specs.declared.reply.Reply.{Reply}
-use Rattle.crb_history.specs.Base.{Base}
+use Rattle.crb_history.specs.Snapshot.{Snapshot}
 use Rattle.crb_history.specs.Event.{History}
-use Rattle.crb_history.specs.Continued.{base_after}
-use Rattle.crb_history.specs.Replies.{Transcript, is_fault, reaches, with_event, order_after, count_after, response_length}
-use Rattle.move_codec.specs.declared.names.HostName.{HostName}
-use Rattle.move_codec.specs.declared.names.HostName.TheVariants.{A, B}
+use Rattle.crb_history.specs.Continued.{snapshot_after}
+use Rattle.vt_transcript.specs.Replies.{Transcript, is_fault, reaches, with_event, injected_fault_after, count_after, response_length}
+use Rattle.vt_base.specs.declared.types.HostName.{HostName}
+use Rattle.vt_base.specs.declared.types.HostName.TheVariants.{A, B}
 use Rattle.move_codec.specs.declared.message.Message.{Message}
 use Rattle.move_codec.specs.declared.message.Body.TheVariants as body
 use Rattle.move_core.specs.declared.stage.MoveStage.{MoveStage}
@@ -33,7 +33,7 @@ pub record TwoHosts : Type 0 where
   pub a : HostState
   pub b : HostState
   pub sent : List Message  -- every message that was sent, the first one first
-  pub offered : ℕ → Base  -- the values that were offered in each epoch
+  pub offered : ℕ → Snapshot  -- the values that were offered in each epoch
 
 -- the first of two for A, the second for B
 abbrev pub pick : {T : Type 0} → HostName → T → T → T
@@ -95,31 +95,31 @@ counted r calls h = record h { injected_fault = if is_fault r then None else h.i
 -- ---- lines of the guest
 
 -- a host after a line that acts on it, or that injects a fault into its wires
-abbrev pub host_after_guest : Base → History → Event → Reply → HostState → HostState
-host_after_guest b p line r h = record h { injected_fault = order_after (Some line) r h.injected_fault; calls = count_after (Some line) r (response_length b p) h.calls }
+abbrev pub host_after_guest : Snapshot → History → Event → Reply → HostState → HostState
+host_after_guest b p line r h = record h { injected_fault = injected_fault_after (Some line) r h.injected_fault; calls = count_after (Some line) r (response_length b p) h.calls }
 
-abbrev pub guest_line_on : Base → TwoHosts → HostName → Event → Reply → TwoHosts
+abbrev pub guest_line_on : Snapshot → TwoHosts → HostName → Event → Reply → TwoHosts
 guest_line_on b t n line r = with_host (record t { history = with_event (Some line) r (fails_at (host_of t n)) t.history }) n (host_after_guest b t.history line r (host_of t n))
 
 -- where no host runs nothing happens
-abbrev pub guest_line_on_any : Base → TwoHosts → Option HostName → Event → Reply → TwoHosts
+abbrev pub guest_line_on_any : Snapshot → TwoHosts → Option HostName → Event → Reply → TwoHosts
 guest_line_on_any b t None line r = t
 guest_line_on_any b t (Some n) line r = guest_line_on b t n line r
 
 -- ---- offer
 
 -- the values that were offered, with those of this epoch
-abbrev pub with_offer : (ℕ → Base) → ℕ → Base → ℕ → Base
+abbrev pub with_offer : (ℕ → Snapshot) → ℕ → Snapshot → ℕ → Snapshot
 with_offer offered epoch values e = if e == epoch then values else offered e
 
 -- A host offers these values. The nine calls fetch the lengths of the three blobs, each by one GET of three calls.
-abbrev pub offering_host : Base → HostState → HostState
+abbrev pub offering_host : Snapshot → HostState → HostState
 offering_host values h = record h { side = record { stage = Offering (h.side.top + 1) (totals_of values); top = h.side.top + 1 }; calls = h.calls + 9 }
 
-abbrev pub offer_message : HostName → Base → HostState → Message
+abbrev pub offer_message : HostName → Snapshot → HostState → Message
 offer_message n values h = message_from n (h.side.top + 1) (body.Offer (totals_of values))
 
-abbrev pub offered_by : Base → TwoHosts → HostName → TwoHosts
+abbrev pub offered_by : Snapshot → TwoHosts → HostName → TwoHosts
 offered_by values t n =
     record (with_host t n (offering_host values (host_of t n))) {
       sent = t.sent ++ offer_message n values (host_of t n) ∷ [];
@@ -127,9 +127,9 @@ offered_by values t n =
     }
 
 -- the host that runs offers the values at the end of the history, or its offer is refused
-abbrev pub after_offer : Base → TwoHosts → Option HostName → Reply → TwoHosts
+abbrev pub after_offer : Snapshot → TwoHosts → Option HostName → Reply → TwoHosts
 after_offer b t None r = t
-after_offer b t (Some n) (reply.Offered epoch message) = offered_by (base_after b t.history) t n
+after_offer b t (Some n) (reply.Offered epoch message) = offered_by (snapshot_after b t.history) t n
 after_offer b t (Some n) r = with_host t n (counted r 0 (host_of t n))
 
 -- ---- deliver
@@ -186,7 +186,7 @@ after_again t (Some n) = record t { sent = t.sent ++ message_from n (epoch_of (s
 -- ---- line by line
 
 -- A fault is injected into the wires of the host that its line names. The other lines of the guest act on the host that runs.
-abbrev pub after_line : Base → ℕ → TwoHosts → Event → Reply → TwoHosts
+abbrev pub after_line : Snapshot → ℕ → TwoHosts → Event → Reply → TwoHosts
 after_line b piece t (Access access) r = guest_line_on_any b t (running_host t) (Access access) r
 after_line b piece t Work r = guest_line_on_any b t (running_host t) Work r
 after_line b piece t Ask r = guest_line_on_any b t (running_host t) Ask r
@@ -199,7 +199,7 @@ after_line b piece t Again r = after_again t (host_where is_prepared t)
 after_line b piece t (Show k) r = t
 
 -- at first A runs, B is empty, no call is to fail, and nothing was sent
-abbrev pub first_hosts : Base → TwoHosts
+abbrev pub first_hosts : Snapshot → TwoHosts
 first_hosts b = record {
   history = [];
   a = record { side = record { stage = Running; top = 0 }; injected_fault = None; calls = 0 };
@@ -208,11 +208,11 @@ first_hosts b = record {
   offered = λ epoch. b;
 }
 
-abbrev pub after_exchange : Base → ℕ → TwoHosts → Option Event → Reply → TwoHosts
+abbrev pub after_exchange : Snapshot → ℕ → TwoHosts → Option Event → Reply → TwoHosts
 after_exchange b piece t None r = t
 after_exchange b piece t (Some line) r = after_line b piece t line r
 
 -- the two hosts after these lines and replies
-abbrev pub hosts_after : Base → ℕ → Transcript → TwoHosts
+abbrev pub hosts_after : Snapshot → ℕ → Transcript → TwoHosts
 hosts_after b piece [] = first_hosts b
 hosts_after b piece (x ∷ t) = after_exchange b piece (hosts_after b piece t) x.line x.reply

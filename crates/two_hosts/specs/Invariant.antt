@@ -1,10 +1,10 @@
 -- The invariant of two hosts and their messages: it is so at first, and every line keeps it. (Own definitions.)
 use Rattle.std.specs.Prelude.{◌≡◌, ◌≢◌, false, ℕ, ◌≤◌, ◌<◌, List, length, slice_get, Some}
-use Rattle.state_blobs.specs.Texts.{slice}
-use Rattle.crb_history.specs.Base.{Base}
+use Rattle.state_blobs.specs.Encodings.{slice}
+use Rattle.crb_history.specs.Snapshot.{Snapshot}
 use Rattle.crb_history.specs.Event.{History}
-use Rattle.crb_history.specs.Continued.{base_after, MaySuspend}
-use Rattle.move_codec.specs.declared.names.HostName.{HostName}
+use Rattle.crb_history.specs.Continued.{snapshot_after, MaySuspend}
+use Rattle.vt_base.specs.declared.types.HostName.{HostName}
 use Rattle.move_codec.specs.declared.message.Message.{Message}
 use Rattle.move_codec.specs.declared.message.Body.{Body}
 use Rattle.move_codec.specs.declared.message.Body.TheVariants as body
@@ -46,7 +46,7 @@ IsHolder (Prepared e) s = s ≡ Released e
 IsHolder _ s = ⊥
 
 -- the top and the totals of a stage are those of the epoch that was offered
-abbrev pub MatchesOffer : (ℕ → Base) → MoveStage → ℕ → Type 0
+abbrev pub MatchesOffer : (ℕ → Snapshot) → MoveStage → ℕ → Type 0
 MatchesOffer offered stage.Empty top = Unit {0}
 MatchesOffer offered stage.Running top = Unit {0}
 MatchesOffer offered (stage.Offering e totals) top = (top ≡ e) × (totals ≡ totals_of (offered e))
@@ -56,7 +56,7 @@ MatchesOffer offered (stage.Prepared e) top = top ≡ e
 
 -- The sides of the holder x and of the other host y. Where the holder doesn't run, the values of its last offer are the
 -- present ones.
-pub record Sides (x y : SideState) (offered : ℕ → Base) (Present : Base → Type 0) : Type 0 where
+pub record Sides (x y : SideState) (offered : ℕ → Snapshot) (Present : Snapshot → Type 0) : Type 0 where
   pub holds : IsHolder (shown_side x) (shown_side y)
   pub order : y.top ≤ x.top
   pub holder : MatchesOffer offered x.stage x.top
@@ -64,7 +64,7 @@ pub record Sides (x y : SideState) (offered : ℕ → Base) (Present : Base → 
   pub same : is_running x.stage ≡ false → Present (offered x.top)
 
 -- what is true of the hosts where this message was sent; n is the name of the holder and k that of the other host
-abbrev pub Says : HostName → HostName → SideState → SideState → (ℕ → Base) → HostName → ℕ → Body → Type 0
+abbrev pub Says : HostName → HostName → SideState → SideState → (ℕ → Snapshot) → HostName → ℕ → Body → Type 0
 Says n k x y offered to e (body.Offer totals) = totals ≡ totals_of (offered e)
 Says n k x y offered to e (body.Need part offset) = Unit {0}
 Says n k x y offered to e (body.Piece part offset bytes) = bytes ≡ slice (part_bytes (offered e) part) offset (length bytes)
@@ -73,7 +73,7 @@ Says n k x y offered to e body.Commit = (shown_side x ≢ Offering e) × (to ≡
 Says n k x y offered to e body.Abort = (shown_side x ≢ Offering e) × (shown_side y ≢ Released e)
 Says n k x y offered to e (body.Refuse why value) = Unit {0}
 
-pub record IsConsistent (n k : HostName) (x y : SideState) (offered : ℕ → Base) (m : Message) : Type 0 where
+pub record IsConsistent (n k : HostName) (x y : SideState) (offered : ℕ → Snapshot) (m : Message) : Type 0 where
   pub epoch : m.epoch ≤ x.top
   pub says : Says n k x y offered m.to m.epoch m.body
 
@@ -83,7 +83,7 @@ Clash body.Commit body.Abort = Unit {0}
 Clash body.Abort body.Commit = Unit {0}
 Clash _ _ = ⊥
 
-pub record PairInvariant (n k : HostName) (x y : SideState) (offered : ℕ → Base) (Present : Base → Type 0) (sent : List Message) : Type 0 where
+pub record PairInvariant (n k : HostName) (x y : SideState) (offered : ℕ → Snapshot) (Present : Snapshot → Type 0) (sent : List Message) : Type 0 where
   pub sides : Sides x y offered Present
   pub each : (m : Message) → IsSent sent m → IsConsistent n k x y offered m
   pub apart : (c d : Message) → IsSent sent c → IsSent sent d → Clash c.body d.body → c.epoch ≢ d.epoch
@@ -92,10 +92,10 @@ abbrev pub side_at : TwoHosts → HostName → SideState
 side_at t n = (host_of t n).side
 
 -- the values at the end of the history, where the guest may be suspended
-pub record IsPresent (b : Base) (p : History) (v : Base) : Type 0 where
-  pub values : v ≡ base_after b p
+pub record IsPresent (b : Snapshot) (p : History) (v : Snapshot) : Type 0 where
+  pub values : v ≡ snapshot_after b p
   pub may : MaySuspend b p
 
 -- one of the hosts is the holder
-abbrev pub HostsInvariant : Base → TwoHosts → Type 0
+abbrev pub HostsInvariant : Snapshot → TwoHosts → Type 0
 HostsInvariant b t = (n : HostName) × PairInvariant n (other n) (side_at t n) (side_at t (other n)) t.offered (IsPresent b t.history) t.sent

@@ -1,7 +1,7 @@
 -- What is true of two hosts after every transcript in turn. (Own definitions.)
 use Rattle.std.specs.Prelude.{◌≡◌, ◌≢◌, ℕ, ◌≤◌, false, ◌&&◌, ◌||◌, ◌⊎◌, [], ◌∷◌, ◌++◌, length}
-use Rattle.state_blobs.specs.Texts.{slice}
-use Rattle.crb_history.specs.Base.{Base}
+use Rattle.state_blobs.specs.Encodings.{slice}
+use Rattle.crb_history.specs.Snapshot.{Snapshot}
 use Rattle.move_codec.specs.declared.message.Message.{Message}
 use Rattle.move_codec.specs.declared.message.Body.{Body}
 use Rattle.move_codec.specs.declared.message.Body.TheVariants as body
@@ -9,18 +9,18 @@ use Rattle.move_core.specs.declared.side.Side.{Side}
 use Rattle.move_core.specs.declared.side.Side.TheVariants.{Offering, Released, Prepared}
 use Rattle.move_core.specs.Sides.{is_active}
 use Rattle.two_hosts.specs.Parts.{part_bytes, totals_of}
-use Rattle.move_codec.specs.declared.names.HostName.{HostName}
+use Rattle.vt_base.specs.declared.types.HostName.{HostName}
 use Rattle.vt_script.specs.declared.event.Event.{Event}
 use Rattle.vt_script.specs.declared.event.Event.TheVariants.{Access, Work, Ask, Reset, Offer, Deliver, GiveUp, Again, Show, Fail}
 use Rattle.two_hosts.specs.Deliveries.{SideState}
 use Rattle.two_hosts.specs.Hosts.{TwoHosts, hosts_after}
-use Rattle.crb_history.specs.Replies.{Transcript}
+use Rattle.vt_transcript.specs.Replies.{Transcript}
 use Rattle.two_hosts.specs.Replies.{InTurn}
 use Rattle.two_hosts.specs.Invariant.{IsSent, side_at, shown_side}
 
 -- after every transcript in turn
 abbrev pub Always : (TwoHosts → Type 0) → Type 0
-Always P = (b : Base) (piece : ℕ) (t : Transcript) → InTurn b piece t → P (hosts_after b piece t)
+Always P = (b : Snapshot) (piece : ℕ) (t : Transcript) → InTurn b piece t → P (hosts_after b piece t)
 
 -- at most one side is Running or Offering
 abbrev pub NeverTwoActive : TwoHosts → Type 0
@@ -39,7 +39,7 @@ abbrev pub NeverBothSent : TwoHosts → Type 0
 NeverBothSent t = (c d : Message) → IsSent t.sent c → IsSent t.sent d → c.body ≡ body.Commit → d.body ≡ body.Abort → c.epoch ≢ d.epoch
 
 -- an Offer has the lengths of the values that were offered, and a Piece has a slice of them
-abbrev pub IsTrueTo : Base → Body → Type 0
+abbrev pub IsTrueTo : Snapshot → Body → Type 0
 IsTrueTo v (body.Offer totals) = totals ≡ totals_of v
 IsTrueTo v (body.Piece part offset bytes) = bytes ≡ slice (part_bytes v part) offset (length bytes)
 IsTrueTo v _ = Unit {0}
@@ -75,6 +75,6 @@ abbrev pub IsOffering : TwoHosts → HostName → ℕ → Type 0
 IsOffering t n e = shown_side (side_at t n) ≡ Offering e
 
 -- before each of these lines the host is Offering
-abbrev pub StaysOffering : Base → ℕ → HostName → ℕ → Transcript → Transcript → Type 0
+abbrev pub StaysOffering : Snapshot → ℕ → HostName → ℕ → Transcript → Transcript → Type 0
 StaysOffering b piece n e [] t = Unit {0}
 StaysOffering b piece n e (x ∷ more) t = StaysOffering b piece n e more t × IsOffering (hosts_after b piece (more ++ t)) n e

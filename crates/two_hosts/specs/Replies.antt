@@ -4,17 +4,17 @@ use Rattle.crb_regs.specs.Registers.{is_lost}
 use Rattle.vt_script.specs.declared.event.Event.{Event}
 use Rattle.vt_script.specs.declared.event.Event.TheVariants.{Access, Work, Ask, Reset, Offer, Deliver, GiveUp, Again, Show, Fail}
 use Rattle.vt_script.specs.declared.reply.Reply.{Reply}
-use Rattle.crb_history.specs.Base.{Base}
+use Rattle.crb_history.specs.Snapshot.{Snapshot}
 use Rattle.crb_history.specs.Device.{phase_of}
 use Rattle.crb_history.specs.Legal.{Legal}
-use Rattle.crb_history.specs.Replies.{Answers, is_under_way, Transcript}
-use Rattle.move_codec.specs.declared.names.HostName.{HostName}
+use Rattle.vt_transcript.specs.Replies.{IsReplyTo, is_under_way, Transcript}
+use Rattle.vt_base.specs.declared.types.HostName.{HostName}
 use Rattle.move_codec.specs.declared.names.Reason.{Reason}
 use Rattle.move_codec.specs.declared.names.Reason.TheVariants.{Busy}
 use Rattle.move_codec.specs.declared.message.Message.{Message}
 use Rattle.move_codec.specs.declared.message.Body.{Body}
 use Rattle.move_codec.specs.declared.message.Body.TheVariants as body
-use Rattle.move_codec.specs.Spelling.{spelling}
+use Rattle.move_codec.specs.Encoding.{encode_message}
 use Rattle.move_core.specs.declared.answers.Delivered.{Delivered}
 use Rattle.move_core.specs.declared.answers.Delivered.TheVariants as delivers
 use Rattle.vt_script.specs.declared.reply.Reply.TheVariants as reply
@@ -33,7 +33,7 @@ offer_reply_at lost under_way t h =
     else (if fails_at h 9 then reply.Link
     else reply.Offered (h.side.top + 1) (next_number t.sent))))
 
-abbrev pub offer_reply : Base → TwoHosts → Option HostName → Reply
+abbrev pub offer_reply : Snapshot → TwoHosts → Option HostName → Reply
 offer_reply b t None = reply.Stopped
 offer_reply b t (Some n) = offer_reply_at (is_lost (phase_of b t.history)) (is_under_way b t.history) t (host_of t n)
 
@@ -76,19 +76,19 @@ again_reply t (Some n) = reply.SentMessage (next_number t.sent)
 
 abbrev pub show_reply : Option Message → Reply
 show_reply None = reply.NoMessage
-show_reply (Some m) = reply.Shown (spelling m)
+show_reply (Some m) = reply.Shown (encode_message m)
 
 -- ---- a line of the guest
 
 -- as for one host
-abbrev pub AnswersOn : Base → TwoHosts → Option HostName → Event → Reply → Type 0
+abbrev pub AnswersOn : Snapshot → TwoHosts → Option HostName → Event → Reply → Type 0
 AnswersOn b t None line r = r ≡ reply.Stopped
-AnswersOn b t (Some n) line r = Answers b t.history (fails_at (host_of t n)) (Some line) r
+AnswersOn b t (Some n) line r = IsReplyTo b t.history (fails_at (host_of t n)) (Some line) r
 
 -- ---- each line
 
 -- A line of the guest acts on the host that runs. A fault may be injected into the wires of either host.
-abbrev pub AnswersLine : Base → ℕ → TwoHosts → Event → Reply → Type 0
+abbrev pub AnswersLine : Snapshot → ℕ → TwoHosts → Event → Reply → Type 0
 AnswersLine b piece t (Access access) r = AnswersOn b t (running_host t) (Access access) r
 AnswersLine b piece t Work r = AnswersOn b t (running_host t) Work r
 AnswersLine b piece t Ask r = AnswersOn b t (running_host t) Ask r
@@ -100,16 +100,16 @@ AnswersLine b piece t GiveUp r = r ≡ give_up_reply t (host_where is_offering t
 AnswersLine b piece t Again r = r ≡ again_reply t (host_where is_prepared t)
 AnswersLine b piece t (Show k) r = r ≡ show_reply (message_at t.sent k)
 
-abbrev pub AnswersIn : Base → ℕ → TwoHosts → Option Event → Reply → Type 0
+abbrev pub AnswersIn : Snapshot → ℕ → TwoHosts → Option Event → Reply → Type 0
 AnswersIn b piece t None r = ⊥
 AnswersIn b piece t (Some line) r = AnswersLine b piece t line r
 
 -- each reply is the one to its line, after the lines and replies before it
-abbrev pub InTurn : Base → ℕ → Transcript → Type 0
+abbrev pub InTurn : Snapshot → ℕ → Transcript → Type 0
 InTurn b piece [] = ⊤
 InTurn b piece (x ∷ t) = InTurn b piece t × AnswersIn b piece (hosts_after b piece t) x.line x.reply
 
 -- the replies are those of one device over one TPM, between two hosts
-pub record IsRun (b : Base) (piece : ℕ) (t : Transcript) : Type 0 where
+pub record IsRun (b : Snapshot) (piece : ℕ) (t : Transcript) : Type 0 where
   pub legal : Legal b (hosts_after b piece t).history
   pub in_turn : InTurn b piece t

@@ -1,13 +1,13 @@
 -- Which hosts run, by the replies alone. (Own definitions.)
 use Rattle.std.specs.Prelude.{Bool, true, false, not, ◌||◌, if◌then◌else◌, [], ◌∷◌}
-use Rattle.move_codec.specs.declared.names.HostName.{HostName}
-use Rattle.move_codec.specs.declared.names.HostName.TheVariants.{A, B}
+use Rattle.vt_base.specs.declared.types.HostName.{HostName}
+use Rattle.vt_base.specs.declared.types.HostName.TheVariants.{A, B}
 use Rattle.move_core.specs.Sides.{other}
 use Rattle.vt_script.specs.declared.event.Event.{Event}
 use Rattle.vt_script.specs.declared.event.Event.TheVariants.{Access, Work, Ask, Reset, Offer, Deliver, GiveUp, Again, Show, Fail}
 use Rattle.vt_script.specs.declared.reply.Reply.{Reply}
 use Rattle.vt_script.specs.declared.reply.Reply.TheVariants as reply
-use Rattle.crb_history.specs.Replies.{Transcript}
+use Rattle.vt_transcript.specs.Replies.{Transcript}
 
 -- the hosts that run, and the source of the latest offer
 pub record RunningSet : Type 0 where

@@ -1,10 +1,10 @@
 //! Laws of two hosts, over every run. Their calls do nothing.
 ghost use Rattle.std.specs.Prelude.{◌≡◌, ◌≢◌, ℕ, ◌+◌, ◌-◌, ◌^◌, ◌<◌, length, ◌&&◌, true, false, Some, None, [], ◌∷◌, ◌++◌, map};
-ghost use Rattle.crb_history.specs.Base.{Base, IsFitBase};
-ghost use Rattle.crb_history.specs.Continued.{base_after};
+ghost use Rattle.crb_history.specs.Snapshot.{Snapshot, IsValidSnapshot};
+ghost use Rattle.crb_history.specs.Continued.{snapshot_after};
 ghost use Rattle.move_codec.specs.declared.names.Reason.{Reason};
 ghost use Rattle.move_codec.specs.declared.names.Reason.TheVariants.{Link};
-ghost use Rattle.move_codec.specs.declared.names.HostName.{HostName};
+ghost use Rattle.vt_base.specs.declared.types.HostName.{HostName};
 ghost use Rattle.move_codec.specs.declared.message.Message.{Message};
 ghost use Rattle.move_codec.specs.declared.message.Body.TheVariants.{Commit, Prepared as PreparedBody};
 ghost use Rattle.move_core.specs.declared.side.Side.TheVariants.{Released};
@@ -15,7 +15,7 @@ ghost use Rattle.vt_script.specs.declared.event.Event.TheVariants.{GiveUp};
 ghost use Rattle.vt_script.specs.declared.reply.Reply.{Reply};
 ghost use Rattle.vt_script.specs.declared.reply.Reply.TheVariants.{Ignored, SentMessage, Offered, RefusedSent, EpochEnd};
 ghost use Rattle.two_hosts.specs.Hosts.{TwoHosts, hosts_after, first_hosts, host_of, stage_at, message_at, running_host, next_number, after_delivery, after_line};
-ghost use Rattle.crb_history.specs.Replies.{Transcript, line_of, is_fault};
+ghost use Rattle.vt_transcript.specs.Replies.{Transcript, line_of, is_fault};
 ghost use Rattle.two_hosts.specs.Replies.{IsRun, InTurn, AnswersLine, deliver_reply, offer_reply, meets_fault};
 ghost use Rattle.two_hosts.specs.Invariant.{HostsInvariant, side_at, shown_side};
 ghost use Rattle.two_hosts.specs.Laws.{Always, NeverTwoActive, NoneMeansHandedOver, NeverBothSent, EachMessageIsTrue, IsStale, IsMoveLine, IsOffering, StaysOffering};
@@ -45,10 +45,10 @@ pub fn slices()
 /// a running host is answered `stopped` exactly where the set is empty, and no other line is.
 #[tactic(auto, using(crate::proofs::RunningSets::runs_where, crate::proofs::RunningSets::never_two, crate::proofs::Stopped::stopped_where_empty))]
 pub fn replies_say_who_runs()
-    ensures same { (b : Base) (piece : ℕ) (t : Transcript) → InTurn b piece t
+    ensures same { (b : Snapshot) (piece : ℕ) (t : Transcript) → InTurn b piece t
         → (n : HostName) → contains (running_set t) n ≡ is_running (stage_at (hosts_after b piece t) n) }
-    ensures one { (b : Base) (piece : ℕ) (t : Transcript) → InTurn b piece t → ((running_set t).a && (running_set t).b) ≡ false }
-    ensures stopped { (b : Base) (piece : ℕ) (t : Transcript) (line : Event) (r : Reply) → InTurn b piece t
+    ensures one { (b : Snapshot) (piece : ℕ) (t : Transcript) → InTurn b piece t → ((running_set t).a && (running_set t).b) ≡ false }
+    ensures stopped { (b : Snapshot) (piece : ℕ) (t : Transcript) (line : Event) (r : Reply) → InTurn b piece t
         → AnswersLine b piece (hosts_after b piece t) line r → is_stopped r ≡ (needs_running line && is_empty (running_set t)) }
 {}
 
@@ -69,11 +69,11 @@ pub fn late_messages_are_ignored()
 /// its offer up runs again after the history that was there when it offered.
 #[tactic(auto, using(crate::proofs::GivenUp::moves_leave, crate::proofs::GivenUp::stopped_leaves))]
 pub fn given_up_moves_leave_the_guest()
-    ensures moves { (b : Base) (piece : ℕ) (t : TwoHosts) (line : Event) (r : Reply) → IsMoveLine line
+    ensures moves { (b : Snapshot) (piece : ℕ) (t : TwoHosts) (line : Event) (r : Reply) → IsMoveLine line
         → (after_line b piece t line r).history ≡ t.history }
-    ensures stopped { (b : Base) (piece : ℕ) (t : TwoHosts) (line : Event) (r : Reply) → running_host t ≡ None
+    ensures stopped { (b : Snapshot) (piece : ℕ) (t : TwoHosts) (line : Event) (r : Reply) → running_host t ≡ None
         → (after_line b piece t line r).history ≡ t.history }
-    ensures given_up { (b : Base) (piece : ℕ) (n : HostName) (e : ℕ) (more t : Transcript) (r : Reply) → InTurn b piece (more ++ t)
+    ensures given_up { (b : Snapshot) (piece : ℕ) (n : HostName) (e : ℕ) (more t : Transcript) (r : Reply) → InTurn b piece (more ++ t)
         → StaysOffering b piece n e more t → IsOffering (hosts_after b piece (more ++ t)) n e
         → ((after_line b piece (hosts_after b piece (more ++ t)) GiveUp r).history ≡ (hosts_after b piece t).history)
         × (is_running (stage_at (after_line b piece (hosts_after b piece (more ++ t)) GiveUp r) n) ≡ true) }
@@ -84,13 +84,13 @@ pub fn given_up_moves_leave_the_guest()
 /// 2^64 - 1 lines an offer never lacks a greater epoch.
 #[tactic(auto, using(crate::proofs::Sure::faults, crate::proofs::Tops::epochs_last))]
 pub fn refusals_are_failed_calls()
-    ensures link { (b : Base) (piece : ℕ) (t : Transcript) (message number : ℕ) (why : Reason) → IsFitBase b → InTurn b piece t
+    ensures link { (b : Snapshot) (piece : ℕ) (t : Transcript) (message number : ℕ) (why : Reason) → IsValidSnapshot b → InTurn b piece t
         → deliver_reply piece (hosts_after b piece t) (message_at (hosts_after b piece t).sent message) ≡ RefusedSent why number
         → why ≡ Link }
-    ensures injected { (b : Base) (piece : ℕ) (t : Transcript) (message : ℕ) (m : Message) → IsFitBase b → InTurn b piece t
+    ensures injected { (b : Snapshot) (piece : ℕ) (t : Transcript) (message : ℕ) (m : Message) → IsValidSnapshot b → InTurn b piece t
         → message_at (hosts_after b piece t).sent message ≡ Some m
         → is_fault (deliver_reply piece (hosts_after b piece t) (Some m)) ≡ meets_fault piece (hosts_after b piece t) m }
-    ensures epochs { (b : Base) (piece : ℕ) (t : Transcript) → InTurn b piece t → length t < 2 ^ 64 - 1
+    ensures epochs { (b : Snapshot) (piece : ℕ) (t : Transcript) → InTurn b piece t → length t < 2 ^ 64 - 1
         → offer_reply b (hosts_after b piece t) (running_host (hosts_after b piece t)) ≢ EpochEnd }
 {}
 
@@ -98,23 +98,23 @@ pub fn refusals_are_failed_calls()
 /// and again, ends with `running` after exactly 2 n + 3 deliveries, n being the number of pieces.
 #[tactic(auto, using(crate::proofs::WholeMoves::offer_replied))]
 pub fn undisturbed_moves_end()
-    ensures offers { (b : Base) (w : TwoHosts) (n : HostName) → CanOffer b w n
+    ensures offers { (b : Snapshot) (w : TwoHosts) (n : HostName) → CanOffer b w n
         → offer_reply b w (running_host w) ≡ Offered ((host_of w n).side.top + 1) (next_number w.sent) }
-    ensures moves { (b : Base) (piece : ℕ) (t : Transcript) (n : HostName) → IsFitBase b → InTurn b piece t
+    ensures moves { (b : Snapshot) (piece : ℕ) (t : Transcript) (n : HostName) → IsValidSnapshot b → InTurn b piece t
         → CanMove b piece (hosts_after b piece t) n
-        → MovesOver b piece (offer_now b piece t ∷ t) n (pieces piece (base_after b (hosts_after b piece t).history)) }
+        → MovesOver b piece (offer_now b piece t ∷ t) n (pieces piece (snapshot_after b (hosts_after b piece t).history)) }
 {}
 
 /// The invariant is so at first, and each line with its reply keeps it: it is so after every transcript in turn.
 #[tactic(auto, using(crate::proofs::InvariantKept::first_kept, crate::proofs::InvariantKept::line_kept, crate::proofs::InvariantKept::run_kept))]
 pub fn lines_keep_the_invariant()
-    ensures first { (b : Base) → HostsInvariant b (first_hosts b) }
-    ensures line { (b : Base) (piece : ℕ) (w : TwoHosts) (line : Event) (r : Reply) → HostsInvariant b w
+    ensures first { (b : Snapshot) → HostsInvariant b (first_hosts b) }
+    ensures line { (b : Snapshot) (piece : ℕ) (w : TwoHosts) (line : Event) (r : Reply) → HostsInvariant b w
         → AnswersLine b piece w line r → HostsInvariant b (after_line b piece w line r) }
-    ensures run { (b : Base) (piece : ℕ) (t : Transcript) → InTurn b piece t → HostsInvariant b (hosts_after b piece t) }
+    ensures run { (b : Snapshot) (piece : ℕ) (t : Transcript) → InTurn b piece t → HostsInvariant b (hosts_after b piece t) }
 {}
 
 /// Lines have one run, injected faults included: each reply follows from the lines and replies before it.
 pub fn runs_are_one()
-    ensures { (b : Base) (piece : ℕ) (t u : Transcript) → map line_of t ≡ map line_of u → IsRun b piece t → IsRun b piece u → t ≡ u }
+    ensures { (b : Snapshot) (piece : ℕ) (t u : Transcript) → map line_of t ≡ map line_of u → IsRun b piece t → IsRun b piece u → t ≡ u }
 {}

@@ -1,14 +1,14 @@
 -- Which lines count a fault of the wires, and of which host.
 use Rattle.std.proofs.Common.{◌≡◌, ℕ, Bool, true, false, refl, sym, ap, subst, ◌∙◌, Some, None, Ok, Err}
 use Rattle.std.specs.Prelude.{Option, Result}
-use Rattle.crb_history.specs.Base.{Base}
-use Rattle.crb_history.specs.Plain.{is_plain}
-use Rattle.crb_history.specs.Replies.{is_fault}
-use Rattle.crb_port.specs.declared.job.Standing.{Standing}
+use Rattle.crb_history.specs.Snapshot.{Snapshot}
+use Rattle.vt_transcript.specs.Plain.{is_plain}
+use Rattle.vt_transcript.specs.Replies.{is_fault}
+use Rattle.crb_port.specs.declared.job.PortState.{PortState}
 use Rattle.ctrl_client.specs.declared.fault.ClientFault.{ClientFault}
 use Rattle.ctrl_client.specs.declared.fault.ClientFault.TheVariants.{Link as LinkFault}
-use Rattle.move_codec.specs.declared.names.HostName.{HostName}
-use Rattle.move_codec.specs.declared.names.HostName.TheVariants.{A, B}
+use Rattle.vt_base.specs.declared.types.HostName.{HostName}
+use Rattle.vt_base.specs.declared.types.HostName.TheVariants.{A, B}
 use Rattle.move_codec.specs.declared.names.Reason.{Reason}
 use Rattle.move_codec.specs.declared.names.Reason.TheVariants as reason
 use Rattle.move_codec.specs.declared.message.Message.{Message}
@@ -109,7 +109,7 @@ acts_plain t (event.Show k) is = cc
 acts_plain t (event.Fail host call) is = cc
 
 -- the host that runs acted, and counted its fault
-pub guest_counts : (b : Base) (piece : ℕ) (t : TwoHosts) (w : TwoSeats) (n : HostName) (line : Event) (r : Reply) (new : SeatState Standing) → is_plain line ≡ true → FollowsBoth b piece t w → running_of w ≡ Some n
+pub guest_counts : (b : Snapshot) (piece : ℕ) (t : TwoHosts) (w : TwoSeats) (n : HostName) (line : Event) (r : Reply) (new : SeatState PortState) → is_plain line ≡ true → FollowsBoth b piece t w → running_of w ≡ Some n
     → CountsFault r (seat_of w n).faults new.faults → CountsBoth t line r w (with_seat w n new)
 guest_counts b piece t w n line r new is f runs counts =
     counts_at t line n r w (with_seat w n new) (acts_plain t line is ∙ sym (running-same b piece t w f) ∙ runs) (here n counts) (there n)
@@ -122,13 +122,13 @@ guest_counts b piece t w n line r new is f runs counts =
     there A = refl
     there B = refl
 
-pub stopped_counts : (b : Base) (piece : ℕ) (t : TwoHosts) (w new : TwoSeats) (line : Event) → is_plain line ≡ true → FollowsBoth b piece t w → running_of w ≡ None → new.a.faults ≡ w.a.faults → new.b.faults ≡ w.b.faults → CountsBoth t line reply.Stopped w new
+pub stopped_counts : (b : Snapshot) (piece : ℕ) (t : TwoHosts) (w new : TwoSeats) (line : Event) → is_plain line ≡ true → FollowsBoth b piece t w → running_of w ≡ None → new.a.faults ≡ w.a.faults → new.b.faults ≡ w.b.faults → CountsBoth t line reply.Stopped w new
 stopped_counts b piece t w new line is f none a b' = counts_none t line reply.Stopped w new (acts_plain t line is ∙ sym (running-same b piece t w f) ∙ none) refl a b'
 
 -- ---- lines about messages
 
 -- an offer of this host counted what its answer says
-pub offer_counted : (b : Base) (piece : ℕ) (t : TwoHosts) (w new : TwoSeats) (n : HostName) (answer : Result Message OfferFault) (number : ℕ) (r : Reply) → FollowsBoth b piece t w → running_of w ≡ Some n → r ≡ said_offer answer number → IsByLink answer
+pub offer_counted : (b : Snapshot) (piece : ℕ) (t : TwoHosts) (w new : TwoSeats) (n : HostName) (answer : Result Message OfferFault) (number : ℕ) (r : Reply) → FollowsBoth b piece t w → running_of w ≡ Some n → r ≡ said_offer answer number → IsByLink answer
     → CountsIf (offered_by_link answer) (seat_of w n).faults (seat_of new n).faults → (seat_of new (other n)).faults ≡ (seat_of w (other n)).faults → CountsBoth t Offer r w new
 offer_counted b piece t w new n answer number r f runs is by counts same =
     counts_at t Offer n r w new (sym (running-same b piece t w f) ∙ runs) (subst (λ (q : Reply). CountsFault q (seat_of w n).faults (seat_of new n).faults) (sym is) (offer_counts answer number (seat_of w n).faults (seat_of new n).faults by counts)) same

@@ -5,13 +5,13 @@ use Rattle.std.proofs.lemmas.Bool.{cond_both, ltb-true, and_parts, eqb-true}
 use Rattle.std.proofs.lemmas.List.{length-take, length-drop}
 use Rattle.crb_port.specs.Plain.{plain}
 use Rattle.ctrl_client.specs.declared.fault.ClientFault.TheVariants.{Link as LinkFault}
-use Rattle.crb_port.specs.declared.job.Standing.{Standing}
-use Rattle.ctrl_client.specs.Link.{Link}
-use Rattle.state_blobs.specs.Texts.{slice}
-use Rattle.crb_history.specs.Replies.{is_fault}
-use Rattle.crb_history.specs.Base.{Base}
-use Rattle.move_codec.specs.declared.names.HostName.{HostName}
-use Rattle.move_codec.specs.declared.names.HostName.TheVariants.{A, B}
+use Rattle.crb_port.specs.declared.job.PortState.{PortState}
+use Rattle.ctrl_model.specs.Link.{Link}
+use Rattle.state_blobs.specs.Encodings.{slice}
+use Rattle.vt_transcript.specs.Replies.{is_fault}
+use Rattle.crb_history.specs.Snapshot.{Snapshot}
+use Rattle.vt_base.specs.declared.types.HostName.{HostName}
+use Rattle.vt_base.specs.declared.types.HostName.TheVariants.{A, B}
 use Rattle.move_codec.specs.declared.names.Part.{Part}
 use Rattle.move_codec.specs.declared.message.Message.{Message}
 use Rattle.move_codec.specs.declared.message.Body.{Body}
@@ -26,7 +26,7 @@ use Rattle.move_core.specs.Hosts.{IsConsistentHost}
 use Rattle.move_core.specs.Table as table
 use Rattle.move_core.specs.Table.{Row}
 use Rattle.move_core.specs.Calls.{Follows, HasBytes}
-use Rattle.move_codec.specs.Spelling.{HasPiece}
+use Rattle.move_codec.specs.Encoding.{HasPiece}
 use Rattle.vt_script.specs.declared.event.Event.TheVariants.{Deliver}
 use Rattle.vt_script.specs.declared.reply.Reply.{Reply}
 use Rattle.vt_script.specs.declared.reply.Reply.TheVariants as reply
@@ -72,8 +72,8 @@ same_name : (n : HostName) → is_same n n ≡ true
 same_name A = refl
 same_name B = refl
 
-module _ (b : Base) (piece : ℕ) (t : TwoHosts) (w : TwoSeats) (n : HostName) (f : FollowsBoth b piece t w) (sound : IsConsistentHost plain (seat_of w n).host) (m : Message) (sent : IsSent t.sent m) (to : m.to ≡ n) where
-  abbrev s : (SeatState Standing)
+module _ (b : Snapshot) (piece : ℕ) (t : TwoHosts) (w : TwoSeats) (n : HostName) (f : FollowsBoth b piece t w) (consistent : IsConsistentHost plain (seat_of w n).host) (m : Message) (sent : IsSent t.sent m) (to : m.to ≡ n) where
+  abbrev s : (SeatState PortState)
   s = seat_of w n
 
   abbrev h : HostState
@@ -110,24 +110,24 @@ module _ (b : Base) (piece : ℕ) (t : TwoHosts) (w : TwoSeats) (n : HostName) (
       go body.Abort says = tt
       go (body.Refuse why value) says = tt
 
-  -- the real host and the one that is told are on the same shown_side
-  by_stage : (q : Body) (R : MoveStage → Row Standing) (T : MoveStage → Bool → Outcome) → ((st : MoveStage) → s.host.stage ≡ st → h.side.stage ≡ st → d.Good b piece t w n f sound q (R st) (T st)) → d.Good b piece t w n f sound q (R s.host.stage) (T h.side.stage)
-  by_stage q R T each = subst (λ st. d.Good b piece t w n f sound q (R st) (T h.side.stage)) (sym (f.seats n).stage_is) (each h.side.stage (f.seats n).stage_is refl)
+  -- the real host and the one that is decoded are on the same shown_side
+  by_stage : (q : Body) (R : MoveStage → Row PortState) (T : MoveStage → Bool → Outcome) → ((st : MoveStage) → s.host.stage ≡ st → h.side.stage ≡ st → d.Good b piece t w n f consistent q (R st) (T st)) → d.Good b piece t w n f consistent q (R s.host.stage) (T h.side.stage)
+  by_stage q R T each = subst (λ st. d.Good b piece t w n f consistent q (R st) (T h.side.stage)) (sym (f.seats n).stage_is) (each h.side.stage (f.seats n).stage_is refl)
 
-  row : (q : Body) → m.body ≡ q → IsTrue q → HasBytes q → d.Good b piece t w n f sound q (table.on_message s.host m.epoch q) (λ fails. talk.delivered (x fails) h.side m.epoch q)
-  row (body.Offer totals) is told has = d.offer_row b piece t w n f sound m.epoch totals passive (ap first_bad told ∙ totals_good (t.offered m.epoch) (f.fits m.epoch))
-  row (body.Need part offset) is told has = by_stage (body.Need part offset) (λ st. table.on_need s.host st m.epoch part offset) (λ st. (λ fails. talk.on_need (x fails) h.side st m.epoch part offset)) (λ st real at. d.need_row b piece t w n f sound st m.epoch part offset at)
-  row (body.Piece part offset bytes) is told has = by_stage (body.Piece part offset bytes) (λ st. table.on_piece s.host st m.epoch part offset bytes) (λ st. (λ fails. talk.on_piece (x fails) h.side st m.epoch part offset bytes)) (λ st real at. pieces.piece_row b piece t w n f sound st m.epoch part offset bytes has told at)
-  row body.Prepared is told has = by_stage body.Prepared (λ st. table.on_prepared s.host st m.epoch) (λ st. (λ fails. talk.on_prepared (x fails) h.side st m.epoch)) (λ st real at. d.prepared_row b piece t w n f sound st m.epoch real at)
-  row body.Commit is told has = by_stage body.Commit (λ st. table.on_commit s.host st m.epoch) (λ st. (λ fails. talk.on_commit h.side st m.epoch))
-      (λ st real at. d.commit_row b piece t w n f sound st m.epoch (λ e same stands. commit_present b t n e m f.invariant sent to (sym same) is stands) real at)
-  row body.Abort is told has = by_stage body.Abort (λ st. table.on_abort s.host st m.epoch) (λ st. (λ fails. talk.on_abort h.side st m.epoch)) (λ st real at. d.abort_row b piece t w n f sound st m.epoch real at)
-  row (body.Refuse why value) is told has = by_stage (body.Refuse why value) (λ st. table.on_refuse s.host st m.epoch) (λ st. (λ fails. talk.on_refuse h.side st m.epoch)) (λ st real at. d.refuse_row b piece t w n f sound st m.epoch why value real at)
+  row : (q : Body) → m.body ≡ q → IsTrue q → HasBytes q → d.Good b piece t w n f consistent q (table.on_message s.host m.epoch q) (λ fails. talk.delivered (x fails) h.side m.epoch q)
+  row (body.Offer totals) is exact has = d.offer_row b piece t w n f consistent m.epoch totals passive (ap first_bad exact ∙ totals_good (t.offered m.epoch) (f.fits m.epoch))
+  row (body.Need part offset) is exact has = by_stage (body.Need part offset) (λ st. table.on_need s.host st m.epoch part offset) (λ st. (λ fails. talk.on_need (x fails) h.side st m.epoch part offset)) (λ st real at. d.need_row b piece t w n f consistent st m.epoch part offset at)
+  row (body.Piece part offset bytes) is exact has = by_stage (body.Piece part offset bytes) (λ st. table.on_piece s.host st m.epoch part offset bytes) (λ st. (λ fails. talk.on_piece (x fails) h.side st m.epoch part offset bytes)) (λ st real at. pieces.piece_row b piece t w n f consistent st m.epoch part offset bytes has exact at)
+  row body.Prepared is exact has = by_stage body.Prepared (λ st. table.on_prepared s.host st m.epoch) (λ st. (λ fails. talk.on_prepared (x fails) h.side st m.epoch)) (λ st real at. d.prepared_row b piece t w n f consistent st m.epoch real at)
+  row body.Commit is exact has = by_stage body.Commit (λ st. table.on_commit s.host st m.epoch) (λ st. (λ fails. talk.on_commit h.side st m.epoch))
+      (λ st real at. d.commit_row b piece t w n f consistent st m.epoch (λ e same stands. commit_present b t n e m f.invariant sent to (sym same) is stands) real at)
+  row body.Abort is exact has = by_stage body.Abort (λ st. table.on_abort s.host st m.epoch) (λ st. (λ fails. talk.on_abort h.side st m.epoch)) (λ st real at. d.abort_row b piece t w n f consistent st m.epoch real at)
+  row (body.Refuse why value) is exact has = by_stage (body.Refuse why value) (λ st. table.on_refuse s.host st m.epoch) (λ st. (λ fails. talk.on_refuse h.side st m.epoch)) (λ st real at. d.refuse_row b piece t w n f consistent st m.epoch why value real at)
 
   -- any row
-  pub delivered_row : d.Good b piece t w n f sound m.body (table.delivered s.host m) (λ fails. talk.delivered (x fails) h.side m.epoch m.body)
+  pub delivered_row : d.Good b piece t w n f consistent m.body (table.delivered s.host m) (λ fails. talk.delivered (x fails) h.side m.epoch m.body)
   unfolding table.delivered
-  delivered_row = subst (λ c. d.Good b piece t w n f sound m.body (if c then table.on_message s.host m.epoch m.body else table.ignored s.host) (λ fails. talk.delivered (x fails) h.side m.epoch m.body))
+  delivered_row = subst (λ c. d.Good b piece t w n f consistent m.body (if c then table.on_message s.host m.epoch m.body else table.ignored s.host) (λ fails. talk.delivered (x fails) h.side m.epoch m.body))
       (sym (ap (λ k. is_same k m.to) (f.seats n).name_is ∙ ap (is_same n) to ∙ same_name n)) (row m.body refl is_true (has_bytes m.body (f.some m sent)))
 
 -- ---- what is sent has bytes, where it is a Piece; and a fault is one of the wires
@@ -160,7 +160,7 @@ module _ (x : DeliveryContext) (s : SideState) (least : 1 ≤ x.piece) (most : x
   takes_some z e totals None = cond_both x.fails _ _ SaysSome (λ lost. record { some = tt }) (λ fine. record { some = tt })
 
   -- a piece that is given begins within its part
-  need_some : (st : MoveStage) (e : ℕ) (part : Part) (offset : ℕ) → MatchesOffer x.offered st s.top → ((v : Base) (q : Part) → total_of (totals_of v) q ≡ length (part_bytes v q)) → SaysSome (talk.on_need x s st e part offset)
+  need_some : (st : MoveStage) (e : ℕ) (part : Part) (offset : ℕ) → MatchesOffer x.offered st s.top → ((v : Snapshot) (q : Part) → total_of (totals_of v) q ≡ length (part_bytes v q)) → SaysSome (talk.on_need x s st e part offset)
   need_some (stage.Offering m totals) e part offset seated total_is = cond_both (m == e && nat_lt offset (total_of totals part)) _ _ SaysSome
       (λ met. cond_both x.fails _ _ SaysSome (λ lost. record { some = refl }) (λ fine.
       let tests = and_parts (m == e) (nat_lt offset (total_of totals part)) met in
@@ -191,7 +191,7 @@ module _ (x : DeliveryContext) (s : SideState) (least : 1 ≤ x.piece) (most : x
   others_some (stage.Filling m totals next place) e = (record { some = tt }, record { some = tt }, cond_both (m == e) _ _ SaysSome (λ met. record { some = tt }) (λ unmet. record { some = tt }), record { some = tt })
   others_some (stage.Prepared m) e = (record { some = tt }, cond_both (m == e) _ _ SaysSome (λ met. record { some = tt }) (λ unmet. record { some = tt }), cond_both (m == e) _ _ SaysSome (λ met. record { some = tt }) (λ unmet. record { some = tt }), record { some = tt })
 
-  delivered_some : (e : ℕ) (q : Body) → MatchesOffer x.offered s.stage s.top → ((v : Base) (q : Part) → total_of (totals_of v) q ≡ length (part_bytes v q)) → SaysSome (talk.delivered x s e q)
+  delivered_some : (e : ℕ) (q : Body) → MatchesOffer x.offered s.stage s.top → ((v : Snapshot) (q : Part) → total_of (totals_of v) q ≡ length (part_bytes v q)) → SaysSome (talk.delivered x s e q)
   delivered_some e (body.Offer totals) seated total_is = cond_both (nat_lt s.top e) _ _ SaysSome
       (λ newer. cond_both (is_active s.stage) _ _ SaysSome (λ busy. record { some = tt }) (λ free. takes_some (record s { top = e }) e totals (first_bad totals))) (λ older. record { some = tt })
   delivered_some e (body.Need part offset) seated total_is = need_some s.stage e part offset seated total_is
@@ -243,26 +243,26 @@ some_is delivers.Runs sent has each = λ x is. each x (subst (λ ms. IsSent ms x
 some_is delivers.Resumed sent has each = λ x is. each x (subst (λ ms. IsSent ms x) (append-nil sent) is)
 some_is (delivers.Wires fault) sent has each = λ x is. each x (subst (λ ms. IsSent ms x) (append-nil sent) is)
 
-module _ (b : Base) (piece : ℕ) (t : TwoHosts) (w : TwoSeats) (k : ℕ) (m : Message) (f : FollowsBoth b piece t w) (sound : IsConsistentHost plain (seat_of w m.to).host) (found : message_at t.sent k ≡ Some m) (sent : IsSent t.sent m)
-    (answer : Delivered) (host : HostModel Standing) (link : Link) (due : Option ℕ) (fa fb number : ℕ) (bag : List Message)
-    (follows : Follows plain (table.delivered (seat_of w m.to).host m) (seen_at (seat_of w m.to).link (seat_of w m.to).due fa) (seen_at link due fb) answer host) (keeps : KeepsAll answer number t.sent bag) where
-  abbrev told : HostState
-  told = host_of t m.to
+module _ (b : Snapshot) (piece : ℕ) (t : TwoHosts) (w : TwoSeats) (k : ℕ) (m : Message) (f : FollowsBoth b piece t w) (consistent : IsConsistentHost plain (seat_of w m.to).host) (found : message_at t.sent k ≡ Some m) (sent : IsSent t.sent m)
+    (answer : Delivered) (host : HostModel PortState) (link : Link) (calls_to_fault : Option ℕ) (fa fb number : ℕ) (bag : List Message)
+    (follows : Follows plain (table.delivered (seat_of w m.to).host m) (seen_at (seat_of w m.to).link (seat_of w m.to).calls_to_fault fa) (seen_at link calls_to_fault fb) answer host) (keeps : KeepsAll answer number t.sent bag) where
+  abbrev exact : HostState
+  exact = host_of t m.to
 
   abbrev y : Bool → Outcome
-  y fails = talk.delivered (context_for piece t m.to fails) told.side m.epoch m.body
+  y fails = talk.delivered (context_for piece t m.to fails) exact.side m.epoch m.body
 
   abbrev r : Reply
   r = said_delivery answer number
 
   abbrev new : TwoSeats
-  new = record (with_seat w m.to (record (seat_of w m.to) { host = host; link = link; due = due })) { bag = bag_delivery answer bag w.bag }
+  new = record (with_seat w m.to (record (seat_of w m.to) { host = host; link = link; calls_to_fault = calls_to_fault })) { bag = bag_delivery answer bag w.bag }
 
   r_is : r ≡ delivery_reply t.sent answer
   r_is = said_is answer number t.sent bag keeps
 
-  ends : Ends b piece t m.to (seat_of w m.to) m.body y answer host link due
-  ends = delivered_row b piece t w m.to f sound m sent refl answer host link due fa fb follows
+  ends : Ends b piece t m.to (seat_of w m.to) m.body y answer host link calls_to_fault
+  ends = delivered_row b piece t w m.to f consistent m sent refl answer host link calls_to_fault fa fb follows
 
   fault : is_fault r ≡ ends.met
   fault = ap is_fault r_is ∙ ends.fault_is
@@ -271,25 +271,25 @@ module _ (b : Base) (piece : ℕ) (t : TwoHosts) (w : TwoSeats) (k : ℕ) (m : M
   answer_is = ends.answer_is ∙ ap (λ c. (y c).answer) (sym fault)
 
   least : 1 ≤ piece
-  least = omega (arith, sound.matches_side.least, (f.seats m.to).piece_is)
+  least = omega (arith, consistent.matches_side.least, (f.seats m.to).piece_is)
 
   most : piece ≤ 4096
-  most = omega (arith, sound.matches_side.most, (f.seats m.to).piece_is)
+  most = omega (arith, consistent.matches_side.most, (f.seats m.to).piece_is)
 
   led : Leads b piece t.history new (after_message piece t m r)
   led = record {
     legal = λ legal. legal;
-    seats = seated_both b piece t.history t.offered t w m.to (record (counted r (calls_at m.body (y false).side.stage (y false).answer) told) { side = (y (is_fault r)).side }) (record (seat_of w m.to) { host = host; link = link; due = due })
-        (subst (λ c. IsSeat b piece t.history t.offered m.to (record (counted r (calls_at m.body (y false).side.stage (y false).answer) told) { side = (y c).side }) (record (seat_of w m.to) { host = host; link = link; due = due })) (sym fault)
-        (subst (λ c. IsSeat b piece t.history t.offered m.to (record (counted c (calls_at m.body (y false).side.stage (y false).answer) told) { side = (y ends.met).side }) (record (seat_of w m.to) { host = host; link = link; due = due })) (sym r_is) ends.seated))
+    seats = seated_both b piece t.history t.offered t w m.to (record (counted r (calls_at m.body (y false).side.stage (y false).answer) exact) { side = (y (is_fault r)).side }) (record (seat_of w m.to) { host = host; link = link; calls_to_fault = calls_to_fault })
+        (subst (λ c. IsSeat b piece t.history t.offered m.to (record (counted r (calls_at m.body (y false).side.stage (y false).answer) exact) { side = (y c).side }) (record (seat_of w m.to) { host = host; link = link; calls_to_fault = calls_to_fault })) (sym fault)
+        (subst (λ c. IsSeat b piece t.history t.offered m.to (record (counted c (calls_at m.body (y false).side.stage (y false).answer) exact) { side = (y ends.met).side }) (record (seat_of w m.to) { host = host; link = link; calls_to_fault = calls_to_fault })) (sym r_is) ends.seated))
         (f.seats (other m.to));
     fits = f.fits;
-    some = some_is (y (is_fault r)).answer t.sent (delivered_some (context_for piece t m.to (is_fault r)) told.side least most m.epoch m.body (d.seated_here b piece t w m.to f sound) (d.total-is b piece t w m.to f sound)).some f.some;
+    some = some_is (y (is_fault r)).answer t.sent (delivered_some (context_for piece t m.to (is_fault r)) exact.side least most m.epoch m.body (d.seated_here b piece t w m.to f consistent) (d.total-is b piece t w m.to f consistent)).some f.some;
     bag_is = bag_is answer number t.sent bag w.bag keeps f.bag_is ∙ ap (λ a. take bag_size (t.sent ++ message_in a)) answer_is;
   }
 
   pub delivered_by_wires : IsSentByLink answer
-  delivered_by_wires = subst IsSentByLink (sym answer_is) (by_wires (y (is_fault r)).answer (delivered_some (context_for piece t m.to (is_fault r)) told.side least most m.epoch m.body (d.seated_here b piece t w m.to f sound) (d.total-is b piece t w m.to f sound)).some)
+  delivered_by_wires = subst IsSentByLink (sym answer_is) (by_wires (y (is_fault r)).answer (delivered_some (context_for piece t m.to (is_fault r)) exact.side least most m.epoch m.body (d.seated_here b piece t w m.to f consistent) (d.total-is b piece t w m.to f consistent)).some)
 
   pub deliver_steps : StepsBoth b piece t (Deliver k) r new
   deliver_steps = steps_by b piece t w new (Deliver k) r f
@@ -297,27 +297,27 @@ module _ (b : Base) (piece : ℕ) (t : TwoHosts) (w : TwoSeats) (k : ℕ) (m : M
       (subst (λ o. Leads b piece t.history new (after_delivery piece t o r)) (sym found) led)
 
 -- no message has this number
-pub none_delivered : (b : Base) (piece : ℕ) (t : TwoHosts) (w : TwoSeats) (k : ℕ) → FollowsBoth b piece t w → message_at t.sent k ≡ None → StepsBoth b piece t (Deliver k) reply.NoMessage w
+pub none_delivered : (b : Snapshot) (piece : ℕ) (t : TwoHosts) (w : TwoSeats) (k : ℕ) → FollowsBoth b piece t w → message_at t.sent k ≡ None → StepsBoth b piece t (Deliver k) reply.NoMessage w
 none_delivered b piece t w k f found = steps_by b piece t w w (Deliver k) reply.NoMessage f (sym (ap (deliver_reply piece t) found)) (subst (λ o. Leads b piece t.history w (after_delivery piece t o reply.NoMessage)) (sym found) (leads_nowhere b piece t w f))
 
 -- by the receiver's name
-pub deliver_at : (b : Base) (piece : ℕ) (t : TwoHosts) (w : TwoSeats) (k : ℕ) (m : Message) (f : FollowsBoth b piece t w) (n : HostName) (to : m.to ≡ n) (sound : IsConsistentHost plain (seat_of w n).host) (found : message_at t.sent k ≡ Some m)
-    (answer : Delivered) (host : HostModel Standing) (link : Link) (due : Option ℕ) (fa fb number : ℕ) (bag : List Message)
-    → Follows plain (table.delivered (seat_of w n).host m) (seen_at (seat_of w n).link (seat_of w n).due fa) (seen_at link due fb) answer host → KeepsAll answer number t.sent bag
-    → StepsBoth b piece t (Deliver k) (said_delivery answer number) (record (with_seat w n (record (seat_of w n) { host = host; link = link; due = due })) { bag = bag_delivery answer bag w.bag })
-deliver_at b piece t w k m f n to sound found answer host link due fa fb number bag follows keeps =
-    subst (λ (n : HostName). IsConsistentHost plain (seat_of w n).host → Follows plain (table.delivered (seat_of w n).host m) (seen_at (seat_of w n).link (seat_of w n).due fa) (seen_at link due fb) answer host
-    → StepsBoth b piece t (Deliver k) (said_delivery answer number) (record (with_seat w n (record (seat_of w n) { host = host; link = link; due = due })) { bag = bag_delivery answer bag w.bag })) to
-    (λ sound follows. deliver_steps b piece t w k m f sound found (in_bag_sent t.sent k m found) answer host link due fa fb number bag follows keeps) sound follows
+pub deliver_at : (b : Snapshot) (piece : ℕ) (t : TwoHosts) (w : TwoSeats) (k : ℕ) (m : Message) (f : FollowsBoth b piece t w) (n : HostName) (to : m.to ≡ n) (consistent : IsConsistentHost plain (seat_of w n).host) (found : message_at t.sent k ≡ Some m)
+    (answer : Delivered) (host : HostModel PortState) (link : Link) (calls_to_fault : Option ℕ) (fa fb number : ℕ) (bag : List Message)
+    → Follows plain (table.delivered (seat_of w n).host m) (seen_at (seat_of w n).link (seat_of w n).calls_to_fault fa) (seen_at link calls_to_fault fb) answer host → KeepsAll answer number t.sent bag
+    → StepsBoth b piece t (Deliver k) (said_delivery answer number) (record (with_seat w n (record (seat_of w n) { host = host; link = link; calls_to_fault = calls_to_fault })) { bag = bag_delivery answer bag w.bag })
+deliver_at b piece t w k m f n to consistent found answer host link calls_to_fault fa fb number bag follows keeps =
+    subst (λ (n : HostName). IsConsistentHost plain (seat_of w n).host → Follows plain (table.delivered (seat_of w n).host m) (seen_at (seat_of w n).link (seat_of w n).calls_to_fault fa) (seen_at link calls_to_fault fb) answer host
+    → StepsBoth b piece t (Deliver k) (said_delivery answer number) (record (with_seat w n (record (seat_of w n) { host = host; link = link; calls_to_fault = calls_to_fault })) { bag = bag_delivery answer bag w.bag })) to
+    (λ consistent follows. deliver_steps b piece t w k m f consistent found (in_bag_sent t.sent k m found) answer host link calls_to_fault fa fb number bag follows keeps) consistent follows
 
 -- a delivery fails by the wires alone
-pub delivered_by_link_at : (b : Base) (piece : ℕ) (t : TwoHosts) (w : TwoSeats) (k : ℕ) (m : Message) (f : FollowsBoth b piece t w) (n : HostName) (to : m.to ≡ n) (sound : IsConsistentHost plain (seat_of w n).host) (found : message_at t.sent k ≡ Some m)
-    (answer : Delivered) (host : HostModel Standing) (link : Link) (due : Option ℕ) (fa fb number : ℕ) (bag : List Message)
-    → Follows plain (table.delivered (seat_of w n).host m) (seen_at (seat_of w n).link (seat_of w n).due fa) (seen_at link due fb) answer host → KeepsAll answer number t.sent bag
+pub delivered_by_link_at : (b : Snapshot) (piece : ℕ) (t : TwoHosts) (w : TwoSeats) (k : ℕ) (m : Message) (f : FollowsBoth b piece t w) (n : HostName) (to : m.to ≡ n) (consistent : IsConsistentHost plain (seat_of w n).host) (found : message_at t.sent k ≡ Some m)
+    (answer : Delivered) (host : HostModel PortState) (link : Link) (calls_to_fault : Option ℕ) (fa fb number : ℕ) (bag : List Message)
+    → Follows plain (table.delivered (seat_of w n).host m) (seen_at (seat_of w n).link (seat_of w n).calls_to_fault fa) (seen_at link calls_to_fault fb) answer host → KeepsAll answer number t.sent bag
     → IsSentByLink answer
-delivered_by_link_at b piece t w k m f n to sound found answer host link due fa fb number bag follows keeps =
-    subst (λ (n : HostName). IsConsistentHost plain (seat_of w n).host → Follows plain (table.delivered (seat_of w n).host m) (seen_at (seat_of w n).link (seat_of w n).due fa) (seen_at link due fb) answer host → IsSentByLink answer) to
-    (λ sound follows. delivered_by_wires b piece t w k m f sound found (in_bag_sent t.sent k m found) answer host link due fa fb number bag follows keeps) sound follows
+delivered_by_link_at b piece t w k m f n to consistent found answer host link calls_to_fault fa fb number bag follows keeps =
+    subst (λ (n : HostName). IsConsistentHost plain (seat_of w n).host → Follows plain (table.delivered (seat_of w n).host m) (seen_at (seat_of w n).link (seat_of w n).calls_to_fault fa) (seen_at link calls_to_fault fb) answer host → IsSentByLink answer) to
+    (λ consistent follows. delivered_by_wires b piece t w k m f consistent found (in_bag_sent t.sent k m found) answer host link calls_to_fault fa fb number bag follows keeps) consistent follows
 
 -- the message that the code finds
 pub found_in : (sent bag : List Message) (k n : ℕ) (m : Message) → bag ≡ take bag_size sent → 1 ≤ k → n ≡ length bag → k - 1 < n → m ≡ get_or bag (k - 1) m → message_at sent k ≡ Some m
@@ -329,13 +329,13 @@ none_in sent bag k n is some len past = sym (bag_at sent bag k is (omega (arith,
 -- ---- the two tables
 
 -- what a host makes of a message that was sent to it is what the table of two hosts says
-pub tables_agree : (b : Base) (piece : ℕ) (t : TwoHosts) (w : TwoSeats) (k : ℕ) (m : Message) (answer : Delivered) (host : HostModel Standing) (link : Link) (due : Option ℕ) (faults : ℕ)
+pub tables_agree : (b : Snapshot) (piece : ℕ) (t : TwoHosts) (w : TwoSeats) (k : ℕ) (m : Message) (answer : Delivered) (host : HostModel PortState) (link : Link) (calls_to_fault : Option ℕ) (faults : ℕ)
     → FollowsBoth b piece t w → IsConsistentHost plain (seat_of w m.to).host → message_at t.sent k ≡ Some m
-    → Follows plain (table.delivered (seat_of w m.to).host m) (view_of (seat_of w m.to)) (seen_at link due faults) answer host
+    → Follows plain (table.delivered (seat_of w m.to).host m) (view_of (seat_of w m.to)) (seen_at link calls_to_fault faults) answer host
     → IsOutcome (talk.delivered (context_for piece t m.to (meets_fault piece t m)) (host_of t m.to).side m.epoch m.body) answer host
-tables_agree b piece t w k m answer host link due faults f sound found follows =
+tables_agree b piece t w k m answer host link calls_to_fault faults f consistent found follows =
     let y : Bool → Outcome = λ fails. talk.delivered (context_for piece t m.to fails) (host_of t m.to).side m.epoch m.body in
-    let ends : Ends b piece t m.to (seat_of w m.to) m.body y answer host link due = delivered_row b piece t w m.to f sound m (in_bag_sent t.sent k m found) refl answer host link due (seat_of w m.to).faults faults follows in
+    let ends : Ends b piece t m.to (seat_of w m.to) m.body y answer host link calls_to_fault = delivered_row b piece t w m.to f consistent m (in_bag_sent t.sent k m found) refl answer host link calls_to_fault (seat_of w m.to).faults faults follows in
     let met : ends.met ≡ meets_fault piece t m = ends.met_is in
     record {
       answer_is = ends.answer_is ∙ ap (λ c. (y c).answer) met;

@@ -1,20 +1,20 @@
--- The lines of the guest, an order, and the lines that use no wires lead both hosts on.
+-- The lines of the guest, a fault to inject, and the lines that use no wires lead both hosts on.
 use Rattle.std.proofs.Common.{◌≡◌, ℕ, zero, suc, ◌<◌, ◌≤◌, ◌-◌, Bool, true, false, List, [], ◌∷◌, ◌++◌, take, refl, sym, ap, subst, ◌∙◌, arith, Some, None, ◌⊎◌, inl, inr}
 use Rattle.std.specs.Prelude.{Option, slice_get, nat_lt, if◌then◌else◌}
 use Rattle.std.proofs.lemmas.Bool.{cond-true, cond-false, cond_both, ltb-true, ltb-false}
-use Rattle.crb_history.specs.Base.{Base, IsFitBase}
+use Rattle.crb_history.specs.Snapshot.{Snapshot, IsValidSnapshot}
 use Rattle.crb_history.specs.Event.{History}
 use Rattle.crb_history.specs.Legal.{Legal}
-use Rattle.crb_history.specs.Plain.{is_plain}
+use Rattle.vt_transcript.specs.Plain.{is_plain}
 use Rattle.crb_port.specs.Plain.{plain}
-use Rattle.crb_port.specs.declared.job.Standing.{Standing}
+use Rattle.crb_port.specs.declared.job.PortState.{PortState}
 use Rattle.vt_script.specs.declared.event.Event.{Event}
 use Rattle.vt_seat.proofs.Steps.{the_same}
 use Rattle.vt_script.specs.declared.event.Event.TheVariants as event
 use Rattle.vt_script.specs.declared.reply.Reply.{Reply}
 use Rattle.vt_script.specs.declared.reply.Reply.TheVariants as reply
-use Rattle.move_codec.specs.declared.names.HostName.{HostName}
-use Rattle.move_codec.specs.declared.names.HostName.TheVariants.{A, B}
+use Rattle.vt_base.specs.declared.types.HostName.{HostName}
+use Rattle.vt_base.specs.declared.types.HostName.TheVariants.{A, B}
 use Rattle.move_codec.specs.declared.message.Message.{Message}
 use Rattle.move_codec.specs.declared.message.Body.TheVariants as body
 use Rattle.move_core.specs.declared.stage.MoveStage.{MoveStage}
@@ -24,14 +24,14 @@ use Rattle.move_core.specs.Sides.{is_running, holds_device, other}
 use Rattle.move_core.specs.Hosts.{IsConsistentHost}
 use Rattle.move_core.specs.Table.{message_from}
 use Rattle.move_core.specs.Calls.{GivesUp, GivesUpAt, said_again}
-use Rattle.move_codec.specs.Spelling.{HasPiece}
+use Rattle.move_codec.specs.Encoding.{HasPiece}
 use Rattle.vt_script.specs.declared.event.Event.TheVariants.{Offer, Deliver, GiveUp, Again, Show}
 use Rattle.two_hosts.specs.Hosts.{TwoHosts, pick, host_of, stage_at, running_host, host_where, is_offering, is_prepared, host_after_guest, guest_line_on, guest_line_on_any, bag_size, running_again, after_give_up, after_again, epoch_of, after_line, message_at}
 use Rattle.two_hosts.specs.Replies.{AnswersOn, AnswersLine, give_up_reply, again_reply, show_reply}
 use Rattle.two_hosts.proofs.Frames.{sent_cases}
 use Rattle.two_hosts.specs.Invariant.{IsSent}
 use Rattle.two_hosts.proofs.InvariantKept.{line_kept, offering_stage, prepared_stage}
-use Rattle.vt_seat.specs.Follows.{FollowsIn, StepsIn}
+use Rattle.vt_seat.specs.Follows.{RefinesOneHost, StepRefinesOneHost}
 use Rattle.vt_seat.specs.Seats.{world_of}
 use Rattle.vt_seat.specs.State.{SeatState}
 use Rattle.two_seats.specs.Seats.{StandsBy, IsSeat}
@@ -41,23 +41,23 @@ use Rattle.two_seats.proofs.Seating.{seated_both, seat_still, other_still, runni
 -- ---- the guest
 
 -- a line of the guest led the host that is found on
-pub record GuestLed (b : Base) (piece : ℕ) (t : TwoHosts) (w : TwoSeats) (n : HostName) (line : Event) (r : Reply) (new : (SeatState Standing)) (found : Option HostName) : Type 0 where
+pub record GuestLed (b : Snapshot) (piece : ℕ) (t : TwoHosts) (w : TwoSeats) (n : HostName) (line : Event) (r : Reply) (new : (SeatState PortState)) (found : Option HostName) : Type 0 where
   pub answers : AnswersOn b t found line r
   pub legal : Legal b t.history → Legal b (guest_line_on_any b t found line r).history
   pub seats : (k : HostName) → IsSeat b piece (guest_line_on_any b t found line r).history (guest_line_on_any b t found line r).offered k (host_of (guest_line_on_any b t found line r) k) (seat_of (with_seat w n new) k)
-  pub fits : (e : ℕ) → IsFitBase ((guest_line_on_any b t found line r).offered e)
+  pub fits : (e : ℕ) → IsValidSnapshot ((guest_line_on_any b t found line r).offered e)
   pub some : (m : Message) → IsSent (guest_line_on_any b t found line r).sent m → HasPiece m.body
   pub bag_is : w.bag ≡ take bag_size (guest_line_on_any b t found line r).sent
 
 -- the host runs, and its seat changed as that of one host
-pub record Went (b : Base) (piece : ℕ) (t : TwoHosts) (w : TwoSeats) (n : HostName) (line : Event) (r : Reply) (new : (SeatState Standing)) : Type 0 where
+pub record Went (b : Snapshot) (piece : ℕ) (t : TwoHosts) (w : TwoSeats) (n : HostName) (line : Event) (r : Reply) (new : (SeatState PortState)) : Type 0 where
   pub follows : FollowsBoth b piece t w
   pub runs : is_running (seat_of w n).host.stage ≡ true
-  pub steps : FollowsIn b (one_of t n) (world_of (seat_of w n)) → StepsIn b (one_of t n) line r (world_of new)
+  pub steps : RefinesOneHost b (one_of t n) (world_of (seat_of w n)) → StepRefinesOneHost b (one_of t n) line r (world_of new)
   pub others : new.host ≡ record (seat_of w n).host { device = new.host.device }
-  pub piece_is : FollowsIn b (one_of t n) (world_of (seat_of w n)) → new.link.desk.piece ≡ (seat_of w n).link.desk.piece
+  pub piece_is : RefinesOneHost b (one_of t n) (world_of (seat_of w n)) → new.link.emulator.piece ≡ (seat_of w n).link.emulator.piece
 
-module _ (b : Base) (piece : ℕ) (t : TwoHosts) (w : TwoSeats) (n : HostName) (line : Event) (r : Reply) (new : (SeatState Standing)) (went : Went b piece t w n line r new) where
+module _ (b : Snapshot) (piece : ℕ) (t : TwoHosts) (w : TwoSeats) (n : HostName) (line : Event) (r : Reply) (new : (SeatState PortState)) (went : Went b piece t w n line r new) where
   here : IsSeat b piece t.history t.offered n (host_of t n) (seat_of w n)
   here = went.follows.seats n
 
@@ -67,10 +67,10 @@ module _ (b : Base) (piece : ℕ) (t : TwoHosts) (w : TwoSeats) (n : HostName) (
   still : is_running (stage_at t (other n)) ≡ false
   still = other_still b t n went.follows.invariant (ap is_running at)
 
-  alone : FollowsIn b (one_of t n) (world_of (seat_of w n))
-  alone = record { fit = went.follows.fit; stands = subst (λ x. StandsBy b t.history t.offered x (seat_of w n)) at here.stands; due = here.due }
+  alone : RefinesOneHost b (one_of t n) (world_of (seat_of w n))
+  alone = record { fit = went.follows.fit; stands = subst (λ x. StandsBy b t.history t.offered x (seat_of w n)) at here.stands; calls_to_fault = here.calls_to_fault }
 
-  stepped : StepsIn b (one_of t n) line r (world_of new)
+  stepped : StepRefinesOneHost b (one_of t n) line r (world_of new)
   stepped = went.steps alone
 
   abbrev q : History
@@ -83,7 +83,7 @@ module _ (b : Base) (piece : ℕ) (t : TwoHosts) (w : TwoSeats) (n : HostName) (
     pieces = went.piece_is alone ∙ here.pieces;
     stage_is = ap (λ (h : HostModel _). h.stage) went.others ∙ here.stage_is;
     top_is = ap (λ (h : HostModel _). h.top) went.others ∙ here.top_is;
-    due = stepped.follows.due;
+    calls_to_fault = stepped.follows.calls_to_fault;
     stands = subst (λ x. StandsBy b q t.offered x new) (sym at) stepped.follows.stands;
   }
 
@@ -101,12 +101,12 @@ module _ (b : Base) (piece : ℕ) (t : TwoHosts) (w : TwoSeats) (n : HostName) (
   led_any = subst (GuestLed b piece t w n line r new) (sym (running_host-is t n (ap is_running at) still)) led
 
 -- a host that runs is where the history of the guest leads
-pub follows_one : (b : Base) (piece : ℕ) (t : TwoHosts) (w : TwoSeats) (n : HostName) → FollowsBoth b piece t w → is_running (seat_of w n).host.stage ≡ true → FollowsIn b (one_of t n) (world_of (seat_of w n))
+pub follows_one : (b : Snapshot) (piece : ℕ) (t : TwoHosts) (w : TwoSeats) (n : HostName) → FollowsBoth b piece t w → is_running (seat_of w n).host.stage ≡ true → RefinesOneHost b (one_of t n) (world_of (seat_of w n))
 follows_one b piece t w n f runs =
     let at : stage_at t n ≡ stage.Running = Rattle.two_hosts.proofs.InvariantKept.running_stage (stage_at t n) (ap is_running (sym (f.seats n).stage_is) ∙ runs) in
-    record { fit = f.fit; stands = subst (λ x. StandsBy b t.history t.offered x (seat_of w n)) at (f.seats n).stands; due = (f.seats n).due }
+    record { fit = f.fit; stands = subst (λ x. StandsBy b t.history t.offered x (seat_of w n)) at (f.seats n).stands; calls_to_fault = (f.seats n).calls_to_fault }
 
-pub guest_steps : (b : Base) (piece : ℕ) (t : TwoHosts) (w : TwoSeats) (n : HostName) (line : Event) (r : Reply) (new : (SeatState Standing)) → is_plain line ≡ true → Went b piece t w n line r new
+pub guest_steps : (b : Snapshot) (piece : ℕ) (t : TwoHosts) (w : TwoSeats) (n : HostName) (line : Event) (r : Reply) (new : (SeatState PortState)) → is_plain line ≡ true → Went b piece t w n line r new
     → StepsBoth b piece t line r (with_seat w n new)
 guest_steps b piece t w n (event.Fail host call) r new is went = absurd cc
 guest_steps b piece t w n event.Offer r new is went = absurd cc
@@ -127,10 +127,10 @@ guest_steps b piece t w n event.Reset r new is went =
     let l = led_any b piece t w n event.Reset r new went in
     record { answers = l.answers; legal = l.legal; follows = record { fit = went.follows.fit; invariant = line_kept b piece t event.Reset r went.follows.invariant l.answers; fits = l.fits; some = l.some; seats = l.seats; bag_is = l.bag_is } }
 
--- ---- an order
+-- ---- a fault to inject
 
-pub order_steps : (b : Base) (piece : ℕ) (t : TwoHosts) (w : TwoSeats) (n : HostName) (call : ℕ) → FollowsBoth b piece t w
-    → StepsBoth b piece t (event.Fail n call) reply.Accepted (with_seat w n (record (seat_of w n) { due = Some (call - 1) }))
+pub order_steps : (b : Snapshot) (piece : ℕ) (t : TwoHosts) (w : TwoSeats) (n : HostName) (call : ℕ) → FollowsBoth b piece t w
+    → StepsBoth b piece t (event.Fail n call) reply.Accepted (with_seat w n (record (seat_of w n) { calls_to_fault = Some (call - 1) }))
 order_steps b piece t w n call f =
     let here = f.seats n in
     record {
@@ -139,8 +139,8 @@ order_steps b piece t w n call f =
       follows = record {
         fit = f.fit;
         invariant = line_kept b piece t (event.Fail n call) reply.Accepted f.invariant refl;
-        seats = seated_both b piece t.history t.offered t w n (host_after_guest b t.history (event.Fail n call) reply.Accepted (host_of t n)) (record (seat_of w n) { due = Some (call - 1) })
-            (record { name_is = here.name_is; piece_is = here.piece_is; pieces = here.pieces; stage_is = here.stage_is; top_is = here.top_is; due = (omega arith, ap Some (omega arith)); stands = stands_on here.stands })
+        seats = seated_both b piece t.history t.offered t w n (host_after_guest b t.history (event.Fail n call) reply.Accepted (host_of t n)) (record (seat_of w n) { calls_to_fault = Some (call - 1) })
+            (record { name_is = here.name_is; piece_is = here.piece_is; pieces = here.pieces; stage_is = here.stage_is; top_is = here.top_is; calls_to_fault = (omega arith, ap Some (omega arith)); stands = stands_on here.stands })
             (f.seats (other n));
         fits = f.fits;
         some = f.some;
@@ -148,18 +148,18 @@ order_steps b piece t w n call f =
       };
     }
   where
-    stands_by : (x : MoveStage) (s : (SeatState Standing)) (due : Option ℕ) → StandsBy b t.history t.offered x s → StandsBy b t.history t.offered x (record s { due = due })
-    stands_by stage.Empty s due is = is
-    stands_by stage.Running s due is = is
-    stands_by (stage.Offering e totals) s due is = is
-    stands_by (stage.Released e) s due is = is
-    stands_by (stage.Filling e totals part place) s due is = is
-    stands_by (stage.Prepared e) s due is = is
+    stands_by : (x : MoveStage) (s : (SeatState PortState)) (calls_to_fault : Option ℕ) → StandsBy b t.history t.offered x s → StandsBy b t.history t.offered x (record s { calls_to_fault = calls_to_fault })
+    stands_by stage.Empty s calls_to_fault is = is
+    stands_by stage.Running s calls_to_fault is = is
+    stands_by (stage.Offering e totals) s calls_to_fault is = is
+    stands_by (stage.Released e) s calls_to_fault is = is
+    stands_by (stage.Filling e totals part place) s calls_to_fault is = is
+    stands_by (stage.Prepared e) s calls_to_fault is = is
 
-    stands_on : StandsBy b t.history t.offered (stage_at t n) (seat_of w n) → StandsBy b t.history t.offered (stage_at t n) (record (seat_of w n) { due = Some (call - 1) })
+    stands_on : StandsBy b t.history t.offered (stage_at t n) (seat_of w n) → StandsBy b t.history t.offered (stage_at t n) (record (seat_of w n) { calls_to_fault = Some (call - 1) })
     stands_on is = stands_by (stage_at t n) (seat_of w n) (Some (call - 1)) is
 
--- ---- the lines of a move: what is told after them
+-- ---- the lines of a move: what is decoded after them
 
 -- each Piece that was sent has bytes, where the one that is sent now has
 pub more_some : (sent : List Message) (m : Message) → ((x : Message) → IsSent sent x → HasPiece x.body) → HasPiece m.body → (x : Message) → IsSent (sent ++ m ∷ []) x → HasPiece x.body
@@ -169,14 +169,14 @@ more_some sent m each has x is = go (sent_cases sent m x is.0 is.1)
     go (inl old) = each x old
     go (inr same) = subst (λ (y : Message). HasPiece y.body) (sym same) has
 
-pub record Leads (b : Base) (piece : ℕ) (p : History) (new : TwoSeats) (after : TwoHosts) : Type 0 where
+pub record Leads (b : Snapshot) (piece : ℕ) (p : History) (new : TwoSeats) (after : TwoHosts) : Type 0 where
   pub legal : Legal b p → Legal b after.history
   pub seats : (k : HostName) → IsSeat b piece after.history after.offered k (host_of after k) (seat_of new k)
-  pub fits : (e : ℕ) → IsFitBase (after.offered e)
+  pub fits : (e : ℕ) → IsValidSnapshot (after.offered e)
   pub some : (m : Message) → IsSent after.sent m → HasPiece m.body
   pub bag_is : new.bag ≡ take bag_size after.sent
 
-pub steps_by : (b : Base) (piece : ℕ) (t : TwoHosts) (w new : TwoSeats) (line : Event) (r : Reply) → FollowsBoth b piece t w → AnswersLine b piece t line r → Leads b piece t.history new (after_line b piece t line r) → StepsBoth b piece t line r new
+pub steps_by : (b : Snapshot) (piece : ℕ) (t : TwoHosts) (w new : TwoSeats) (line : Event) (r : Reply) → FollowsBoth b piece t w → AnswersLine b piece t line r → Leads b piece t.history new (after_line b piece t line r) → StepsBoth b piece t line r new
 steps_by b piece t w new line r f answers l = record {
   answers = answers;
   legal = l.legal;
@@ -184,18 +184,18 @@ steps_by b piece t w new line r f answers l = record {
 }
 
 -- nothing was done
-pub leads_nowhere : (b : Base) (piece : ℕ) (t : TwoHosts) (w : TwoSeats) → FollowsBoth b piece t w → Leads b piece t.history w t
+pub leads_nowhere : (b : Snapshot) (piece : ℕ) (t : TwoHosts) (w : TwoSeats) → FollowsBoth b piece t w → Leads b piece t.history w t
 leads_nowhere b piece t w f = record { legal = λ legal. legal; seats = f.seats; fits = f.fits; some = f.some; bag_is = f.bag_is }
 
 -- ---- giveup
 
 -- an offer was taken back
-module _ (b : Base) (piece : ℕ) (t : TwoHosts) (w : TwoSeats) (n : HostName) (f : FollowsBoth b piece t w) (sound : IsConsistentHost plain (seat_of w n).host)
-    (m : Message) (host : HostModel Standing) (number : ℕ) (bag : List Message) (keeps : Keeps m number t.sent bag) where
-  abbrev s : (SeatState Standing)
+module _ (b : Snapshot) (piece : ℕ) (t : TwoHosts) (w : TwoSeats) (n : HostName) (f : FollowsBoth b piece t w) (consistent : IsConsistentHost plain (seat_of w n).host)
+    (m : Message) (host : HostModel PortState) (number : ℕ) (bag : List Message) (keeps : Keeps m number t.sent bag) where
+  abbrev s : (SeatState PortState)
   s = seat_of w n
 
-  abbrev given_up : (SeatState Standing)
+  abbrev given_up : (SeatState PortState)
   given_up = record s { host = host }
 
   abbrev here_at : IsSeat b piece t.history t.offered n (host_of t n) s
@@ -205,19 +205,19 @@ module _ (b : Base) (piece : ℕ) (t : TwoHosts) (w : TwoSeats) (n : HostName) (
   gives_up_led (stage.Offering e totals) is (said, resumes) =
       let at : stage_at t n ≡ stage.Offering e totals = sym here_at.stage_is ∙ is in
       let stands : StandsBy b t.history t.offered (stage.Offering e totals) s = subst (λ x. StandsBy b t.history t.offered x s) at here_at.stands in
-      let held : s.host.device.held ≡ true = sound.matches_side.held ∙ ap (λ x. holds_device x) is in
+      let held : s.host.device.held ≡ true = consistent.matches_side.held ∙ ap (λ x. holds_device x) is in
       let sent : m ≡ message_from n (epoch_of (stage_at t n)) body.Abort = the_same _ _ said ∙ ap (λ name. message_from name e body.Abort) here_at.name_is ∙ ap (λ x. message_from n (epoch_of x) body.Abort) (sym at) in
       record {
         legal = λ legal. legal;
         seats = seated_both b piece t.history t.offered t w n (running_again (host_of t n)) given_up
             (record {
-              name_is = ap (λ (h : HostModel Standing). h.name) resumes.rest ∙ here_at.name_is;
-              piece_is = ap (λ (h : HostModel Standing). h.piece) resumes.rest ∙ here_at.piece_is;
+              name_is = ap (λ (h : HostModel PortState). h.name) resumes.rest ∙ here_at.name_is;
+              piece_is = ap (λ (h : HostModel PortState). h.piece) resumes.rest ∙ here_at.piece_is;
               pieces = here_at.pieces;
-              stage_is = ap (λ (h : HostModel Standing). h.stage) resumes.rest;
-              top_is = ap (λ (h : HostModel Standing). h.top) resumes.rest ∙ here_at.top_is;
-              due = here_at.due;
-              stands = goes_on_here b t.history (t.offered e) s.host.device host.device s.progress s.link (offers_present b t n e totals f.invariant at) stands.1 stands.0 held sound.device resumes.device;
+              stage_is = ap (λ (h : HostModel PortState). h.stage) resumes.rest;
+              top_is = ap (λ (h : HostModel PortState). h.top) resumes.rest ∙ here_at.top_is;
+              calls_to_fault = here_at.calls_to_fault;
+              stands = goes_on_here b t.history (t.offered e) s.host.device host.device s.progress s.link (offers_present b t n e totals f.invariant at) stands.1 stands.0 held consistent.device resumes.device;
             })
             (f.seats (other n));
         fits = f.fits;
@@ -235,12 +235,12 @@ module _ (b : Base) (piece : ℕ) (t : TwoHosts) (w : TwoSeats) (n : HostName) (
       (ap reply.ResumedSent keeps.number_is ∙ sym (ap (give_up_reply t) found))
       (subst (λ k. Leads b piece t.history (record (with_seat w n given_up) { bag = bag }) (after_give_up t k)) (sym found) (gives_up_led s.host.stage refl gives))
 
-pub none_gives_up : (b : Base) (piece : ℕ) (t : TwoHosts) (w : TwoSeats) → FollowsBoth b piece t w → host_where is_offering t ≡ None → StepsBoth b piece t GiveUp reply.NotOffering w
+pub none_gives_up : (b : Snapshot) (piece : ℕ) (t : TwoHosts) (w : TwoSeats) → FollowsBoth b piece t w → host_where is_offering t ≡ None → StepsBoth b piece t GiveUp reply.NotOffering w
 none_gives_up b piece t w f found = steps_by b piece t w w GiveUp reply.NotOffering f (sym (ap (give_up_reply t) found)) (subst (λ k. Leads b piece t.history w (after_give_up t k)) (sym found) (leads_nowhere b piece t w f))
 
 -- ---- again
 
-module _ (b : Base) (piece : ℕ) (t : TwoHosts) (w : TwoSeats) (n : HostName) (f : FollowsBoth b piece t w) (m : Message) (number : ℕ) (bag : List Message) (keeps : Keeps m number t.sent bag) where
+module _ (b : Snapshot) (piece : ℕ) (t : TwoHosts) (w : TwoSeats) (n : HostName) (f : FollowsBoth b piece t w) (m : Message) (number : ℕ) (bag : List Message) (keeps : Keeps m number t.sent bag) where
   again_led : (x : MoveStage) → (seat_of w n).host.stage ≡ x → Some m ≡ said_again x (seat_of w n).host → Leads b piece t.history (record w { bag = bag }) (after_again t (Some n))
   again_led (stage.Prepared e) is said =
       let here = f.seats n in
@@ -258,15 +258,15 @@ module _ (b : Base) (piece : ℕ) (t : TwoHosts) (w : TwoSeats) (n : HostName) (
       (ap reply.SentMessage keeps.number_is ∙ sym (ap (again_reply t) found))
       (subst (λ k. Leads b piece t.history (record w { bag = bag }) (after_again t k)) (sym found) (again_led (seat_of w n).host.stage refl said))
 
-pub none_again : (b : Base) (piece : ℕ) (t : TwoHosts) (w : TwoSeats) → FollowsBoth b piece t w → host_where is_prepared t ≡ None → StepsBoth b piece t Again reply.NotPrepared w
+pub none_again : (b : Snapshot) (piece : ℕ) (t : TwoHosts) (w : TwoSeats) → FollowsBoth b piece t w → host_where is_prepared t ≡ None → StepsBoth b piece t Again reply.NotPrepared w
 none_again b piece t w f found = steps_by b piece t w w Again reply.NotPrepared f (sym (ap (again_reply t) found)) (subst (λ k. Leads b piece t.history w (after_again t k)) (sym found) (leads_nowhere b piece t w f))
 
 -- ---- where no host runs
 
-stopped_led : (b : Base) (piece : ℕ) (t : TwoHosts) (w : TwoSeats) (line : Event) → FollowsBoth b piece t w → running_host t ≡ None → Leads b piece t.history w (guest_line_on_any b t (running_host t) line reply.Stopped)
+stopped_led : (b : Snapshot) (piece : ℕ) (t : TwoHosts) (w : TwoSeats) (line : Event) → FollowsBoth b piece t w → running_host t ≡ None → Leads b piece t.history w (guest_line_on_any b t (running_host t) line reply.Stopped)
 stopped_led b piece t w line f none = subst (λ k. Leads b piece t.history w (guest_line_on_any b t k line reply.Stopped)) (sym none) (leads_nowhere b piece t w f)
 
-pub stopped_steps : (b : Base) (piece : ℕ) (t : TwoHosts) (w : TwoSeats) (line : Event) → is_plain line ≡ true → FollowsBoth b piece t w → running_host t ≡ None → StepsBoth b piece t line reply.Stopped w
+pub stopped_steps : (b : Snapshot) (piece : ℕ) (t : TwoHosts) (w : TwoSeats) (line : Event) → is_plain line ≡ true → FollowsBoth b piece t w → running_host t ≡ None → StepsBoth b piece t line reply.Stopped w
 stopped_steps b piece t w (event.Fail host call) is f none = absurd cc
 stopped_steps b piece t w event.Offer is f none = absurd cc
 stopped_steps b piece t w (event.Deliver k) is f none = absurd cc
@@ -280,7 +280,7 @@ stopped_steps b piece t w event.Reset is f none = steps_by b piece t w w event.R
 
 -- ---- show
 
-pub show_steps : (b : Base) (piece : ℕ) (t : TwoHosts) (w : TwoSeats) (k : ℕ) (r : Reply) → FollowsBoth b piece t w → r ≡ show_reply (message_at t.sent k) → StepsBoth b piece t (Show k) r w
+pub show_steps : (b : Snapshot) (piece : ℕ) (t : TwoHosts) (w : TwoSeats) (k : ℕ) (r : Reply) → FollowsBoth b piece t w → r ≡ show_reply (message_at t.sent k) → StepsBoth b piece t (Show k) r w
 show_steps b piece t w k r f is = steps_by b piece t w w (Show k) r f is (leads_nowhere b piece t w f)
 
 -- a message in the bag is the one of its number
@@ -317,16 +317,16 @@ runs_here w A found = runs_go (is_running w.a.host.stage) (is_running w.b.host.s
 runs_here w B found = runs_go (is_running w.a.host.stage) (is_running w.b.host.stage) B found
 
 -- the host that is looked for, by what the code finds
-pub found_a : (b : Base) (piece : ℕ) (t : TwoHosts) (w : TwoSeats) (test : MoveStage → Bool) → FollowsBoth b piece t w → test w.a.host.stage ≡ true → host_where test t ≡ Some A
+pub found_a : (b : Snapshot) (piece : ℕ) (t : TwoHosts) (w : TwoSeats) (test : MoveStage → Bool) → FollowsBoth b piece t w → test w.a.host.stage ≡ true → host_where test t ≡ Some A
 found_a b piece t w test f met = cond-true (test t.a.side.stage) _ _ (ap test (sym (f.seats A).stage_is) ∙ met)
 
-pub found_b : (b : Base) (piece : ℕ) (t : TwoHosts) (w : TwoSeats) (test : MoveStage → Bool) → FollowsBoth b piece t w → test w.a.host.stage ≡ false → test w.b.host.stage ≡ true → host_where test t ≡ Some B
+pub found_b : (b : Snapshot) (piece : ℕ) (t : TwoHosts) (w : TwoSeats) (test : MoveStage → Bool) → FollowsBoth b piece t w → test w.a.host.stage ≡ false → test w.b.host.stage ≡ true → host_where test t ≡ Some B
 found_b b piece t w test f unmet met = cond-false (test t.a.side.stage) _ _ (ap test (sym (f.seats A).stage_is) ∙ unmet) ∙ cond-true (test t.b.side.stage) _ _ (ap test (sym (f.seats B).stage_is) ∙ met)
 
-pub found_none : (b : Base) (piece : ℕ) (t : TwoHosts) (w : TwoSeats) (test : MoveStage → Bool) → FollowsBoth b piece t w → test w.a.host.stage ≡ false → test w.b.host.stage ≡ false → host_where test t ≡ None
+pub found_none : (b : Snapshot) (piece : ℕ) (t : TwoHosts) (w : TwoSeats) (test : MoveStage → Bool) → FollowsBoth b piece t w → test w.a.host.stage ≡ false → test w.b.host.stage ≡ false → host_where test t ≡ None
 found_none b piece t w test f unmet none = cond-false (test t.a.side.stage) _ _ (ap test (sym (f.seats A).stage_is) ∙ unmet) ∙ cond-false (test t.b.side.stage) _ _ (ap test (sym (f.seats B).stage_is) ∙ none)
 
-pub gave_up : (x : MoveStage) (h : HostModel Standing) (m : Message) (new : HostModel Standing) → GivesUpAt x plain h (Some m) new → is_offering x ≡ true
+pub gave_up : (x : MoveStage) (h : HostModel PortState) (m : Message) (new : HostModel PortState) → GivesUpAt x plain h (Some m) new → is_offering x ≡ true
 gave_up (stage.Offering e totals) h m new is = refl
 gave_up stage.Empty h m new (none, same) = absurd cc
 gave_up stage.Running h m new (none, same) = absurd cc
@@ -334,7 +334,7 @@ gave_up (stage.Released e) h m new (none, same) = absurd cc
 gave_up (stage.Filling e totals part place) h m new (none, same) = absurd cc
 gave_up (stage.Prepared e) h m new (none, same) = absurd cc
 
-pub gave_none : (x : MoveStage) (h new : HostModel Standing) → GivesUpAt x plain h None new → (is_offering x ≡ false) × (new ≡ h)
+pub gave_none : (x : MoveStage) (h new : HostModel PortState) → GivesUpAt x plain h None new → (is_offering x ≡ false) × (new ≡ h)
 gave_none (stage.Offering e totals) h new (none, resumes) = absurd cc
 gave_none stage.Empty h new (none, same) = (refl, same)
 gave_none stage.Running h new (none, same) = (refl, same)
@@ -342,7 +342,7 @@ gave_none (stage.Released e) h new (none, same) = (refl, same)
 gave_none (stage.Filling e totals part place) h new (none, same) = (refl, same)
 gave_none (stage.Prepared e) h new (none, same) = (refl, same)
 
-pub said_some : (x : MoveStage) (h : HostModel Standing) (m : Message) → Some m ≡ said_again x h → is_prepared x ≡ true
+pub said_some : (x : MoveStage) (h : HostModel PortState) (m : Message) → Some m ≡ said_again x h → is_prepared x ≡ true
 said_some (stage.Prepared e) h m is = refl
 said_some stage.Empty h m is = absurd cc
 said_some stage.Running h m is = absurd cc
@@ -350,7 +350,7 @@ said_some (stage.Offering e totals) h m is = absurd cc
 said_some (stage.Released e) h m is = absurd cc
 said_some (stage.Filling e totals part place) h m is = absurd cc
 
-pub said_none : (x : MoveStage) (h : HostModel Standing) → None ≡ said_again x h → is_prepared x ≡ false
+pub said_none : (x : MoveStage) (h : HostModel PortState) → None ≡ said_again x h → is_prepared x ≡ false
 said_none (stage.Prepared e) h is = absurd cc
 said_none stage.Empty h is = refl
 said_none stage.Running h is = refl

@@ -1,22 +1,22 @@
 -- How the seats of both hosts stand after a change of one of them.
 use Rattle.std.proofs.Common.{◌≡◌, ℕ, true, false, List, refl, sym, ap, subst, ◌∙◌, Some, None}
 use Rattle.std.proofs.lemmas.Bool.{cond-true, cond-false}
-use Rattle.crb_history.specs.Base.{Base, IsFitBase}
+use Rattle.crb_history.specs.Snapshot.{Snapshot, IsValidSnapshot}
 use Rattle.crb_history.specs.Continued.{device_after}
 use Rattle.crb_history.specs.Event.{History}
 use Rattle.crb_port.specs.Plain.{plain}
-use Rattle.crb_port.specs.declared.job.Standing.{Standing}
-use Rattle.crb_machine.specs.Over.{plain_device, IsSound, GoesOn}
+use Rattle.crb_port.specs.declared.job.PortState.{PortState}
+use Rattle.crb_machine.specs.Over.{plain_device, IsConsistentDevice, GoesOn}
 use Rattle.crb_machine.specs.State.{DeviceState}
 use Rattle.crb_machine.specs.Values.{device_of}
 use Rattle.crb_machine.specs.Model.{DeviceModel}
 use Rattle.crb_worker.specs.declared.progress.Progress.{Progress}
 use Rattle.crb_worker.specs.declared.progress.Progress.TheVariants.{Free}
-use Rattle.ctrl_client.specs.Link.{Link}
+use Rattle.ctrl_model.specs.Link.{Link}
 use Rattle.vt_script.specs.declared.event.Event.{Event}
 use Rattle.vt_script.specs.declared.reply.Reply.{Reply}
-use Rattle.move_codec.specs.declared.names.HostName.{HostName}
-use Rattle.move_codec.specs.declared.names.HostName.TheVariants.{A, B}
+use Rattle.vt_base.specs.declared.types.HostName.{HostName}
+use Rattle.vt_base.specs.declared.types.HostName.TheVariants.{A, B}
 use Rattle.move_core.specs.declared.stage.MoveStage.{MoveStage}
 use Rattle.move_core.specs.declared.stage.MoveStage.TheVariants as stage
 use Rattle.move_core.specs.declared.side.Side.TheVariants.{Running, Offering}
@@ -26,7 +26,7 @@ use Rattle.two_hosts.specs.Hosts.{TwoHosts, HostState, host_of, with_host, stage
 use Rattle.two_hosts.specs.Invariant.{HostsInvariant, PairInvariant, IsPresent, IsPassive, side_at}
 use Rattle.two_hosts.proofs.RestActs.{rests, offering_top}
 use Rattle.two_hosts.proofs.InvariantKept.{running_stage}
-use Rattle.vt_seat.specs.Follows.{Stands, IsDesk}
+use Rattle.vt_seat.specs.Follows.{RefinesAt, IsEmulator}
 use Rattle.vt_seat.specs.State.{SeatState}
 use Rattle.two_seats.specs.Seats.{IsIdle, HasValues, StandsBy, IsSeat}
 use Rattle.two_seats.specs.Both.{TwoSeats, seat_of, with_seat, running_of, FollowsBoth, StepsBoth}
@@ -34,8 +34,8 @@ use Rattle.vt_seat.proofs.Going.{goes-on, stands-at}
 
 -- ---- one host changed
 
--- each host stands where it is told, where one of them and what is told of it changed
-pub seated_both : (b : Base) (piece : ℕ) (p : History) (offered : ℕ → Base) (t : TwoHosts) (w : TwoSeats) (n : HostName) (h : HostState) (s : (SeatState Standing))
+-- each host stands where it is decoded, where one of them and what is decoded of it changed
+pub seated_both : (b : Snapshot) (piece : ℕ) (p : History) (offered : ℕ → Snapshot) (t : TwoHosts) (w : TwoSeats) (n : HostName) (h : HostState) (s : (SeatState PortState))
     → IsSeat b piece p offered n h s → IsSeat b piece p offered (other n) (host_of t (other n)) (seat_of w (other n))
     → (k : HostName) → IsSeat b piece p offered k (host_of (with_host t n h) k) (seat_of (with_seat w n s) k)
 seated_both b piece p offered t w A h s is others A = is
@@ -45,7 +45,7 @@ seated_both b piece p offered t w B h s is others B = is
 
 -- ---- a host that doesn't run takes no part in the history
 
-pub stands_still : (b : Base) (p q : History) (offered : ℕ → Base) (at : MoveStage) (s : (SeatState Standing)) → is_running at ≡ false → StandsBy b p offered at s → StandsBy b q offered at s
+pub stands_still : (b : Snapshot) (p q : History) (offered : ℕ → Snapshot) (at : MoveStage) (s : (SeatState PortState)) → is_running at ≡ false → StandsBy b p offered at s → StandsBy b q offered at s
 stands_still b p q offered stage.Running s still is = absurd cc
 stands_still b p q offered stage.Empty s still is = is
 stands_still b p q offered (stage.Offering e totals) s still is = is
@@ -53,14 +53,14 @@ stands_still b p q offered (stage.Released e) s still is = is
 stands_still b p q offered (stage.Filling e totals part place) s still is = is
 stands_still b p q offered (stage.Prepared e) s still is = is
 
-pub seat_still : (b : Base) (piece : ℕ) (p q : History) (offered : ℕ → Base) (n : HostName) (h : HostState) (s : (SeatState Standing)) → is_running h.side.stage ≡ false → IsSeat b piece p offered n h s → IsSeat b piece q offered n h s
+pub seat_still : (b : Snapshot) (piece : ℕ) (p q : History) (offered : ℕ → Snapshot) (n : HostName) (h : HostState) (s : (SeatState PortState)) → is_running h.side.stage ≡ false → IsSeat b piece p offered n h s → IsSeat b piece q offered n h s
 seat_still b piece p q offered n h s still is = record {
   name_is = is.name_is;
   piece_is = is.piece_is;
   pieces = is.pieces;
   stage_is = is.stage_is;
   top_is = is.top_is;
-  due = is.due;
+  calls_to_fault = is.calls_to_fault;
   stands = stands_still b p q offered h.side.stage s still is.stands;
 }
 
@@ -75,7 +75,7 @@ passive_still stage.Running is = absurd is
 passive_still (stage.Offering e totals) is = absurd is
 
 -- where one host runs, the other one doesn't
-pub other_still : (b : Base) (t : TwoHosts) (n : HostName) → HostsInvariant b t → is_running (stage_at t n) ≡ true → is_running (stage_at t (other n)) ≡ false
+pub other_still : (b : Snapshot) (t : TwoHosts) (n : HostName) → HostsInvariant b t → is_running (stage_at t n) ≡ true → is_running (stage_at t (other n)) ≡ false
 other_still b t n kept runs = go kept.0 n kept.1 runs
   where
     go : (holder n : HostName) → PairInvariant holder (other holder) (side_at t holder) (side_at t (other holder)) t.offered (IsPresent b t.history) t.sent → is_running (stage_at t n) ≡ true → is_running (stage_at t (other n)) ≡ false
@@ -85,7 +85,7 @@ other_still b t n kept runs = go kept.0 n kept.1 runs
     go B A k runs = absurd (rests B A t.b.side t.a.side t.offered _ t.sent k Running (ap side_of (running_stage t.a.side.stage runs)))
 
 -- the values of a host that offers are those at the end of the history
-pub offers_present : (b : Base) (t : TwoHosts) (n : HostName) (e : ℕ) (totals : List ℕ) → HostsInvariant b t → stage_at t n ≡ stage.Offering e totals → IsPresent b t.history (t.offered e)
+pub offers_present : (b : Snapshot) (t : TwoHosts) (n : HostName) (e : ℕ) (totals : List ℕ) → HostsInvariant b t → stage_at t n ≡ stage.Offering e totals → IsPresent b t.history (t.offered e)
 offers_present b t n e totals kept at = go kept.0 n kept.1 at
   where
     here : (x y : SideState) (n k : HostName) → PairInvariant n k x y t.offered (IsPresent b t.history) t.sent → x.stage ≡ stage.Offering e totals → IsPresent b t.history (t.offered e)
@@ -103,22 +103,22 @@ pub running_host-is : (t : TwoHosts) (n : HostName) → is_running (stage_at t n
 running_host-is t A runs still = cond-true (is_running t.a.side.stage) _ _ runs
 running_host-is t B runs still = cond-false (is_running t.a.side.stage) _ _ still ∙ cond-true (is_running t.b.side.stage) _ _ runs
 
-pub running-same : (b : Base) (piece : ℕ) (t : TwoHosts) (w : TwoSeats) → FollowsBoth b piece t w → running_of w ≡ running_host t
+pub running-same : (b : Snapshot) (piece : ℕ) (t : TwoHosts) (w : TwoSeats) → FollowsBoth b piece t w → running_of w ≡ running_host t
 running-same b piece t w f = rw ((f.seats A).stage_is, (f.seats B).stage_is) refl
 
 -- ---- the guest goes on here
 
 -- a held device with the values at the end of the history goes on there
-pub goes_on_here : (b : Base) (p : History) (v : Base) (d e : DeviceModel Standing) (progress : Progress) (l : Link)
-    → IsPresent b p v → HasValues v d l → IsIdle progress l → d.held ≡ true → IsSound plain d → GoesOn plain d e → Stands b p (plain_device e) progress l
-goes_on_here b p v d e progress l present has idle held sound goes =
-    let now = stands-at b p l (subst IsFitBase present.values has.fit) present.may idle.quiet (record { desk = subst (λ (x : Base). IsDesk l.desk x.tpm None) present.values has.desk; lane = idle.lane }) in
-    let device : plain_device e ≡ device_of (device_after b p) = goes-on d e held sound goes ∙ ap device_of (has.device ∙ ap (λ (x : Base). x.device) present.values) in
-    subst (λ (q : Progress). Stands b p (plain_device e) q l) (sym idle.free) (subst (λ (x : DeviceState). Stands b p x Free l) (sym device) now)
+pub goes_on_here : (b : Snapshot) (p : History) (v : Snapshot) (d e : DeviceModel PortState) (progress : Progress) (l : Link)
+    → IsPresent b p v → HasValues v d l → IsIdle progress l → d.held ≡ true → IsConsistentDevice plain d → GoesOn plain d e → RefinesAt b p (plain_device e) progress l
+goes_on_here b p v d e progress l present has idle held consistent goes =
+    let now = stands-at b p l (subst IsValidSnapshot present.values has.fit) present.may idle.quiet (record { emulator = subst (λ (x : Snapshot). IsEmulator l.emulator x.tpm None) present.values has.emulator; channel = idle.channel }) in
+    let device : plain_device e ≡ device_of (device_after b p) = goes-on d e held consistent goes ∙ ap device_of (has.device ∙ ap (λ (x : Snapshot). x.device) present.values) in
+    subst (λ (q : Progress). RefinesAt b p (plain_device e) q l) (sym idle.free) (subst (λ (x : DeviceState). RefinesAt b p x Free l) (sym device) now)
 
 -- ---- where a seat is doesn't hang on the count of its faults
 
-stands_any : (b : Base) (p : History) (offered : ℕ → Base) (x : MoveStage) (s : SeatState Standing) (faults : ℕ) → StandsBy b p offered x s → StandsBy b p offered x (record s { faults = faults })
+stands_any : (b : Snapshot) (p : History) (offered : ℕ → Snapshot) (x : MoveStage) (s : SeatState PortState) (faults : ℕ) → StandsBy b p offered x s → StandsBy b p offered x (record s { faults = faults })
 stands_any b p offered stage.Empty s faults is = is
 stands_any b p offered stage.Running s faults is = is
 stands_any b p offered (stage.Offering e totals) s faults is = is
@@ -126,14 +126,14 @@ stands_any b p offered (stage.Released e) s faults is = is
 stands_any b p offered (stage.Filling e totals part place) s faults is = is
 stands_any b p offered (stage.Prepared e) s faults is = is
 
-seat_any : (b : Base) (piece : ℕ) (p : History) (offered : ℕ → Base) (n : HostName) (h : HostState) (s : SeatState Standing) (faults : ℕ) → IsSeat b piece p offered n h s → IsSeat b piece p offered n h (record s { faults = faults })
+seat_any : (b : Snapshot) (piece : ℕ) (p : History) (offered : ℕ → Snapshot) (n : HostName) (h : HostState) (s : SeatState PortState) (faults : ℕ) → IsSeat b piece p offered n h s → IsSeat b piece p offered n h (record s { faults = faults })
 seat_any b piece p offered n h s faults is = record {
   name_is = is.name_is;
   piece_is = is.piece_is;
   pieces = is.pieces;
   stage_is = is.stage_is;
   top_is = is.top_is;
-  due = is.due;
+  calls_to_fault = is.calls_to_fault;
   stands = stands_any b p offered h.side.stage s faults is.stands;
 }
 
@@ -141,12 +141,12 @@ seat_any b piece p offered n h s faults is = record {
 abbrev pub with_faults : TwoSeats → ℕ → ℕ → TwoSeats
 with_faults w fa fb = record w { a = record w.a { faults = fa }; b = record w.b { faults = fb } }
 
-follows_any : (b : Base) (piece : ℕ) (t : TwoHosts) (w : TwoSeats) (fa fb : ℕ) → FollowsBoth b piece t w → FollowsBoth b piece t (with_faults w fa fb)
+follows_any : (b : Snapshot) (piece : ℕ) (t : TwoHosts) (w : TwoSeats) (fa fb : ℕ) → FollowsBoth b piece t w → FollowsBoth b piece t (with_faults w fa fb)
 follows_any b piece t w fa fb f = record { fit = f.fit; invariant = f.invariant; fits = f.fits; seats = seats; some = f.some; bag_is = f.bag_is }
   where
     seats : (n : HostName) → IsSeat b piece t.history t.offered n (host_of t n) (seat_of (with_faults w fa fb) n)
     seats A = seat_any b piece t.history t.offered A t.a w.a fa (f.seats A)
     seats B = seat_any b piece t.history t.offered B t.b w.b fb (f.seats B)
 
-pub steps_any : (b : Base) (piece : ℕ) (t : TwoHosts) (line : Event) (r : Reply) (w : TwoSeats) (fa fb : ℕ) → StepsBoth b piece t line r w → StepsBoth b piece t line r (with_faults w fa fb)
+pub steps_any : (b : Snapshot) (piece : ℕ) (t : TwoHosts) (line : Event) (r : Reply) (w : TwoSeats) (fa fb : ℕ) → StepsBoth b piece t line r w → StepsBoth b piece t line r (with_faults w fa fb)
 steps_any b piece t line r w fa fb s = record { answers = s.answers; legal = s.legal; follows = follows_any b piece (after_line b piece t line r) w fa fb s.follows }

@@ -1,15 +1,15 @@
 -- Two seats and the messages between them, where lines and their replies lead. (Own definitions.)
 use Rattle.std.specs.Prelude.{◌≡◌, ◌++◌, ◌∷◌, [], ℕ, false, List, take, length, nat_lt, ◌+◌, Option, Some, None, Result, Ok, Err, if◌then◌else◌}
-use Rattle.tpm_core.specs.Steps.{IsFit}
-use Rattle.crb_port.specs.declared.job.Standing.{Standing}
-use Rattle.crb_history.specs.Base.{Base, IsFitBase}
+use Rattle.tpm_core.specs.Steps.{IsValid}
+use Rattle.crb_port.specs.declared.job.PortState.{PortState}
+use Rattle.crb_history.specs.Snapshot.{Snapshot, IsValidSnapshot}
 use Rattle.crb_history.specs.Legal.{Legal}
-use Rattle.crb_history.specs.OneHost.{OneHost}
-use Rattle.crb_history.specs.Replies.{Transcript, is_fault}
-use Rattle.move_codec.specs.declared.names.HostName.{HostName}
-use Rattle.move_codec.specs.declared.names.HostName.TheVariants.{A, B}
+use Rattle.vt_transcript.specs.OneHost.{OneHost}
+use Rattle.vt_transcript.specs.Replies.{Transcript, is_fault}
+use Rattle.vt_base.specs.declared.types.HostName.{HostName}
+use Rattle.vt_base.specs.declared.types.HostName.TheVariants.{A, B}
 use Rattle.move_codec.specs.declared.message.Message.{Message}
-use Rattle.move_codec.specs.Spelling.{HasPiece}
+use Rattle.move_codec.specs.Encoding.{HasPiece}
 use Rattle.move_core.specs.Model.{HostModel}
 use Rattle.move_core.specs.Sides.{is_running, other}
 use Rattle.move_core.specs.declared.answers.OfferFault.{OfferFault}
@@ -30,14 +30,14 @@ use Rattle.two_seats.specs.Seats.{IsSeat}
 
 -- the seats of A and B, and the messages that were sent, the first one first
 pub record TwoSeats : Type 0 where
-  pub a : SeatState Standing
-  pub b : SeatState Standing
+  pub a : SeatState PortState
+  pub b : SeatState PortState
   pub bag : List Message
 
-abbrev pub seat_of : TwoSeats → HostName → SeatState Standing
+abbrev pub seat_of : TwoSeats → HostName → SeatState PortState
 seat_of w n = pick n w.a w.b
 
-abbrev pub with_seat : TwoSeats → HostName → SeatState Standing → TwoSeats
+abbrev pub with_seat : TwoSeats → HostName → SeatState PortState → TwoSeats
 with_seat w n s = record w { a = pick n s w.a; b = pick n w.b s }
 
 -- the host whose guest runs
@@ -46,19 +46,19 @@ running_of w = if is_running w.a.host.stage then Some A else (if is_running w.b.
 
 -- what is known of one of the hosts
 abbrev pub one_of : TwoHosts → HostName → OneHost
-one_of t n = record { history = t.history; order = (host_of t n).injected_fault; count = (host_of t n).calls }
+one_of t n = record { history = t.history; injected_fault = (host_of t n).injected_fault; count = (host_of t n).calls }
 
 -- The seats and the bag are where this is known of the hosts. A piece of a record or of a blob has at most `piece` bytes.
-pub record FollowsBoth (b : Base) (piece : ℕ) (t : TwoHosts) (w : TwoSeats) : Type 0 where
-  pub fit : IsFit b.tpm
+pub record FollowsBoth (b : Snapshot) (piece : ℕ) (t : TwoHosts) (w : TwoSeats) : Type 0 where
+  pub fit : IsValid b.tpm
   pub invariant : HostsInvariant b t
-  pub fits : (e : ℕ) → IsFitBase (t.offered e)
+  pub fits : (e : ℕ) → IsValidSnapshot (t.offered e)
   pub seats : (n : HostName) → IsSeat b piece t.history t.offered n (host_of t n) (seat_of w n)
   pub some : (m : Message) → IsSent t.sent m → HasPiece m.body
   pub bag_is : w.bag ≡ take bag_size t.sent
 
 -- one line and its reply lead on
-pub record StepsBoth (b : Base) (piece : ℕ) (t : TwoHosts) (line : Event) (reply : Reply) (new : TwoSeats) : Type 0 where
+pub record StepsBoth (b : Snapshot) (piece : ℕ) (t : TwoHosts) (line : Event) (reply : Reply) (new : TwoSeats) : Type 0 where
   pub answers : AnswersLine b piece t line reply
   pub legal : Legal b t.history → Legal b (after_line b piece t line reply).history
   pub follows : FollowsBoth b piece (after_line b piece t line reply) new
@@ -66,7 +66,7 @@ pub record StepsBoth (b : Base) (piece : ℕ) (t : TwoHosts) (line : Event) (rep
 -- ---- the two tables of deliveries
 
 -- a host that took a message is what this says of its side, and its answer too
-pub record IsOutcome (o : Outcome) (answer : Delivered) (host : HostModel Standing) : Type 0 where
+pub record IsOutcome (o : Outcome) (answer : Delivered) (host : HostModel PortState) : Type 0 where
   pub answer_is : answer ≡ o.answer
   pub stage_is : host.stage ≡ o.side.stage
   pub top_is : host.top ≡ o.side.top
@@ -102,7 +102,7 @@ CountsBoth t line r old new = CountsOn (acts_on t line) r old new
 -- ---- runs
 
 -- these lines and replies are a run that leads here
-pub record RunsTo (b : Base) (piece : ℕ) (t : Transcript) (w : TwoSeats) : Type 0 where
+pub record RunsTo (b : Snapshot) (piece : ℕ) (t : Transcript) (w : TwoSeats) : Type 0 where
   pub run : IsRun b piece t
   pub follows : FollowsBoth b piece (hosts_after b piece t) w
 

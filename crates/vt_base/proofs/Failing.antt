@@ -3,7 +3,7 @@ use Rattle.std.proofs.Common.{◌≡◌, ℕ, ◌≤◌, Result, Ok, Err, true, 
 use Rattle.std.proofs.lemmas.Grind.{common_steps}
 use Rattle.std.specs.List.{list_all, list_any}
 use Rattle.vt_base.specs.Faults.{counted, IsCounted, HasCause}
-use Rattle.vt_base.specs.Memory.{Plan, called, is_steady, is_to_fail}
+use Rattle.vt_base.specs.Memory.{Schedule, called, is_steady, is_to_fail}
 
 none_at : (failing : List ℕ) (n : ℕ) → list_all (λ call. nat_lt call n) failing ≡ true → list_any (λ call. nat_eq call n) failing ≡ false
 none_at [] n all = refl
@@ -14,12 +14,12 @@ all_below [] n m le all = refl
 all_below (call ∷ failing) n m le all = grind (arith, common_steps, all_below failing n m le)
 
 -- where no call is to fail, the next one isn't
-pub next_is_sure : (plan : Plan) → is_steady plan ≡ true → is_to_fail plan ≡ false
-next_is_sure plan sure = none_at plan.failing (counted plan.calls) sure
+pub next_is_sure : (schedule : Schedule) → is_steady schedule ≡ true → is_to_fail schedule ≡ false
+next_is_sure schedule succeeds_if_promised = none_at schedule.failing (counted schedule.calls) succeeds_if_promised
 
 -- and none is after it
-pub later_are_sure : (plan : Plan) → is_steady plan ≡ true → is_steady (called plan) ≡ true
-later_are_sure plan sure = all_below plan.failing (counted plan.calls) (counted (counted plan.calls)) (omega arith) sure
+pub later_are_sure : (schedule : Schedule) → is_steady schedule ≡ true → is_steady (called schedule) ≡ true
+later_are_sure schedule succeeds_if_promised = all_below schedule.failing (counted schedule.calls) (counted (counted schedule.calls)) (omega arith) succeeds_if_promised
 
 -- one more that was counted is a cause
 pub counted_is_cause : {T E : Type 0} (before now : ℕ) (result : Result T E) → IsCounted before now → HasCause before now result

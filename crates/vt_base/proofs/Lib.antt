@@ -1,8 +1,8 @@
 pub mod Failing
-pub mod Fronts
-pub mod Known
+pub mod Prefixes
+pub mod CallsInARow
 pub mod Layouts
 pub mod Numbers
 pub mod Streams
 pub mod Zeros
-pub mod Marks
+pub mod Magics

@@ -1,4 +1,4 @@
--- Formats whose messages are told from the left. (Own definitions.)
+-- Formats whose messages are parsed from left to right. (Own definitions.)
 use Rattle.std.specs.Prelude.{◌≡◌, ℕ, ◌-◌, ◌≤◌, ◌<◌, List, [], length, take, drop, slice_index}
 use Rattle.std.specs.Int.{w16, w32, w64, from_be_bytes}
 
@@ -24,13 +24,13 @@ abbrev pub long_then : {E : Type 0} → (ℕ → Layout E) → Layout E
 long_then next = Field 8 (λ field. next (from_be_bytes w64 field))
 
 -- These bytes, and no fewer, make the message end so.
-abbrev pub Spells : {E : Type 0} → Layout E → E → List ℕ → Type 0
-Spells (Ends e) end bytes = (e ≡ end) × (bytes ≡ [])
-Spells (Field n next) end bytes = (n ≤ length bytes) × Spells (next (take n bytes)) end (drop n bytes)
+abbrev pub Encodes : {E : Type 0} → Layout E → E → List ℕ → Type 0
+Encodes (Ends e) end bytes = (e ≡ end) × (bytes ≡ [])
+Encodes (Field n next) end bytes = (n ≤ length bytes) × Encodes (next (take n bytes)) end (drop n bytes)
 
--- No front of these bytes makes the message end.
+-- No prefix of these bytes makes the message end.
 abbrev pub IsOpen : {E : Type 0} → Layout E → List ℕ → Type 0
-IsOpen {E} layout bytes = (end : E) (n : ℕ) → Spells layout end (take n bytes) → ⊥
+IsOpen {E} layout bytes = (end : E) (n : ℕ) → Encodes layout end (take n bytes) → ⊥
 
 -- No message has more bytes than these.
 abbrev pub IsWithin : {E : Type 0} → Layout E → ℕ → Type 0

@@ -3,7 +3,7 @@ use Rattle.std.specs.Prelude.{ℕ, List, ◌++◌, length, take, drop}
 use Rattle.std.specs.Borrow.{Lends, MutBor, Fml, Array, u8}
 use Rattle.vt_base.specs.contracts.bytes.Bytes.{the_row}
 
--- the list with these bytes written over its front; as a slice keeps its length, these bytes
+-- the list with these bytes written over its start; as a slice keeps its length, these bytes
 abbrev pub written_over : List ℕ → List ℕ → List ℕ
 written_over list bytes = take (length list) (bytes ++ drop (length bytes) list)
 

@@ -10,6 +10,6 @@ pub mod Refusing
 pub mod Standard
 pub mod Status
 pub mod Stream
-pub mod Verdict
+pub mod Parsing
 pub mod Within
-pub mod Marks
+pub mod Magics

@@ -1,4 +1,4 @@
--- Bytes and the numbers that they spell. (Own definitions.)
+-- Bytes and the numbers that they encode. (Own definitions.)
 use Rattle.std.specs.Prelude.{ℕ, ◌<◌, List, slice_index}
 use Rattle.std.specs.Int.{w16, w32, w64, to_be_bytes}
 

@@ -48,7 +48,7 @@ impl Bytes {
     /// Keeps the first `n` bytes, and no others.
     pub fn cut(&mut self, n: usize)
         requires within { n ≤ length self.old }
-        ensures front { self.new ≡ take n self.old }
+        ensures prefix { self.new ≡ take n self.old }
     {
         self.items.truncate(n);
     }

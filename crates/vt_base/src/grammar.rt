@@ -1,13 +1,13 @@
-// Formats of messages that are told from the left.
+// Formats of messages that are parsed from left to right.
 ghost use Rattle.std.specs.Prelude.{◌≡◌, ℕ};
 ghost use Rattle.vt_base.specs.Layout.{Layout, IsWithin};
-ghost use Rattle.vt_base.specs.Verdict.{judged};
+ghost use Rattle.vt_base.specs.Parsing.{parsed};
 
 /// How many bytes are missing at the end of a field that isn't whole.
 #[derive(Clone, Copy, Debug, PartialEq, Eq)]
 pub struct Missing(pub usize);
 
-/// A format whose messages are told from the left, field by field.
+/// A format whose messages are parsed from left to right, field by field.
 pub trait Grammar {
     /// How a message ends: as a value, or as a refusal.
     type End;
@@ -20,8 +20,8 @@ pub trait Grammar {
 
     /// How the message that these bytes begin ends, or how many bytes its next field lacks. A reader calls it once a field
     /// with all the bytes so far, so it should pass over the fields without looking at each of their bytes.
-    fn judge(&self, bytes: &[u8]) -> Result<Self::End, Missing>
-        ensures verdict { result ≡ judged (layout self.now) bytes.now };
+    fn parse(&self, bytes: &[u8]) -> Result<Self::End, Missing>
+        ensures parsed { result ≡ parsed (layout self.now) bytes.now };
 
     /// No message has more bytes than `room`.
     ghost within: { (g : Self) → IsWithin (layout g) (room g) };

@@ -1,20 +1,20 @@
 // Laws of every layout, for proofs above. Their calls do nothing.
 ghost use Rattle.std.specs.Prelude.{◌≡◌, ◌++◌, ◌∷◌, [], List, ℕ};
-ghost use Rattle.vt_base.specs.Layout.{Layout, Spells, IsOpen};
+ghost use Rattle.vt_base.specs.Layout.{Layout, Encodes, IsOpen};
 ghost use Rattle.vt_base.specs.Stream.{Streams};
 
-/// No spelling begins another: two spellings at the front of the same bytes are the same, and end alike.
-pub fn ends_are_told_apart<E>()
+/// No encoding begins another: two encodings at the start of the same bytes are the same, and end alike.
+pub fn encodings_are_prefix_free<E>()
     ensures apart { (layout : Layout E) (d e : E) (a b x y : List ℕ) →
-        Spells layout d a → Spells layout e b → a ++ x ≡ b ++ y → (d ≡ e) × (a ≡ b) }
+        Encodes layout d a → Encodes layout e b → a ++ x ≡ b ++ y → (d ≡ e) × (a ≡ b) }
 {}
 
 /// However a stream is cut into pieces, it is these messages and no others, up to a rest in which
 /// nothing ended.
-pub fn streams_are_told_once<E>()
+pub fn decoding_is_unique<E>()
     // What a reader took so far grows by the messages that become whole.
-    ensures grows { (layout : Layout E) (ends : List E) (stream rest : List ℕ) (end : E) (piece front back : List ℕ) →
-        Streams layout ends stream rest → rest ++ piece ≡ front ++ back → Spells layout end front →
+    ensures grows { (layout : Layout E) (ends : List E) (stream rest : List ℕ) (end : E) (piece prefix back : List ℕ) →
+        Streams layout ends stream rest → rest ++ piece ≡ prefix ++ back → Encodes layout end prefix →
         Streams layout (ends ++ end ∷ []) (stream ++ piece) back }
 
     // Two readings of a stream agree, whatever the pieces were.

@@ -3,30 +3,30 @@ ghost use Rattle.std.specs.Prelude.{◌≡◌, ◌≢◌, ◌+◌, ◌≤◌, �
 ghost use Rattle.std.specs.Io.{ReadsAtMost};
 ghost use Rattle.std.specs.Io.KnownBytes.{ReadConsumes};
 ghost use Rattle.vt_base.specs.Faults.{Counts, Rose};
-ghost use Rattle.vt_base.specs.Input.{CountsInput, EndsWhole, LosesAtMost, ReadWhole};
+ghost use Rattle.vt_base.specs.Input.{CountsInput, ReadsToEnd, LosesAtMost, ReadsExactly};
 
 use crate::Failed;
 use std::alloc::Global;
 
 /// Where bytes come from.
 pub trait Source {
-    /// The bytes that are left to read, where the source tells them.
+    /// The bytes that are left to read, where they are known.
     ghost left: { Self → Option (List ℕ) };
 
     /// How many reads have failed. A counter that has reached its last value stays there.
     ghost faults: { Self → ℕ };
 
-    /// Whether the source tells that no later read is to fail.
-    ghost steady: { Self → Bool };
+    /// Whether the source promises that no later read fails.
+    ghost never_fails: { Self → Bool };
 
-    /// Writes the next bytes to the front of the slice and gives their number. For a slice that isn't empty, 0 is the
+    /// Writes the next bytes to the start of the slice and gives their number. For a slice that isn't empty, 0 is the
     /// end of the input. A read that fails takes no byte, and the next one goes on where it stood.
     fn read(&mut self, into: &mut [u8]) -> Result<usize, Failed>
         ensures bound { ReadsAtMost result into.new }
         ensures bytes { ReadConsumes (left self.old) (left self.new) result into.new }
         ensures counts { Counts (faults self.old) (faults self.new) result }
-        ensures steady { IsTrue (steady self.old) → IsOk result }
-        ensures stays { IsTrue (steady self.old) → IsTrue (steady self.new) };
+        ensures never_fails { IsTrue (never_fails self.old) → IsOk result }
+        ensures stays { IsTrue (never_fails self.old) → IsTrue (never_fails self.new) };
 }
 
 /// What came of reading an input to its end.
@@ -48,13 +48,13 @@ const CHUNK: usize = 4096;
 /// Reads an input to its end, if it has at most `limit` bytes. Whatever the answer, what was read up to then is gone
 /// from the source: at most `limit` bytes and one chunk of 4096.
 pub fn read_all<S: Source>(alloc: Global, source: &mut S, limit: usize) -> Input
-    ensures input { ReadWhole (S.left source.old) limit result }
-    ensures ended { EndsWhole (S.left source.new) result }
+    ensures input { ReadsExactly (S.left source.old) limit result }
+    ensures ended { ReadsToEnd (S.left source.new) result }
     ensures gone { LosesAtMost (S.left source.old) (S.left source.new) (limit + 4096) }
     ensures counts { CountsInput (S.faults source.old) (S.faults source.new) result }
     ensures fault { result ≡ Input.Fault → Rose (S.faults source.old) (S.faults source.new) }
     ensures later { S.faults source.old ≤ S.faults source.new }
-    ensures steady { IsTrue (S.steady source.old) → result ≢ Input.Fault }
+    ensures never_fails { IsTrue (S.never_fails source.old) → result ≢ Input.Fault }
 {
     let mut bytes = Vec::new(alloc);
     let mut chunk = [0u8; CHUNK];

@@ -1,4 +1,5 @@
-// Sources and sinks over readers and writers of std. They tell what the reader or the writer tells.
+// Sources and sinks over readers and writers of std. What is known of them is what is known of the reader or the
+// writer.
 ghost use Rattle.std.specs.Prelude.{◌≡◌, false};
 
 use crate::{Failed, Sink, Source};
@@ -34,7 +35,7 @@ impl<R: Read> Source for StdSource<R> {
 
     ghost faults = { λ s. s.faults };
 
-    ghost steady = { λ _. false };
+    ghost never_fails = { λ _. false };
 
     fn read(&mut self, into: &mut [u8]) -> Result<usize, Failed> {
         match self.inner.read(into) {

@@ -9,64 +9,64 @@ use Rattle.ctrl_codec.specs.declared.request.RequestFault.{RequestFault}
 use Rattle.ctrl_codec.specs.declared.request_reader.FedRequest.TheVariants.{More, Whole}
 use Rattle.ctrl_codec.specs.declared.reply.Reply.TheVariants as reply
 use Rattle.ctrl_codec.specs.Requests.{Asks, Refuses, requests}
-use Rattle.ctrl_codec.specs.Replies.{reply_spelling}
-use Rattle.ctrl_codec.specs.Reading.{Reading}
-use Rattle.ctrl_codec.specs.RequestReading.{IsUndecided, IsAfter}
+use Rattle.ctrl_codec.specs.Replies.{encode_reply}
+use Rattle.ctrl_codec.specs.Reading.{ReaderState}
+use Rattle.ctrl_codec.specs.RequestReading.{IsUndecided, IsReaderAfter}
 use Rattle.ctrl_codec.proofs.Requests.{says}
-use Rattle.ctrl_client.specs.Desk.{fault_result, closed_for}
-use Rattle.ctrl_client.specs.Link.{Heard, heard_in}
-use Rattle.ctrl_client.specs.Link.Heard.{Asked, Refused}
-use Rattle.ctrl_client.proofs.Hearing.{heard_front, refused_front, heard_open}
-use Rattle.vt_emulator.specs.Board.{BoardState, Obeying}
-use Rattle.vt_emulator.specs.Emulator.{EmulatorState, Controls, ControlsBy, HearsBy}
+use Rattle.ctrl_model.specs.Emulator.{fault_result, closed_for}
+use Rattle.ctrl_model.specs.Link.{Heard, heard_in}
+use Rattle.ctrl_model.specs.Link.Heard.{Asked, Refused}
+use Rattle.ctrl_model.proofs.Hearing.{heard_prefix, refused_prefix, heard_open}
+use Rattle.vt_emulator.specs.CoreStates.{CoreState, HandledRequest}
+use Rattle.vt_emulator.specs.Emulator.{BufferedEmulator, Controls, ControlsBy, HearsBy}
 
 -- an emulator by its reader and its board
-abbrev pub state_of : Reading → BoardState → EmulatorState
-state_of reader board = record { desk = board.desk; request = reader.begun; command = board.command }
+abbrev pub state_of : ReaderState → CoreState → BufferedEmulator
+state_of reader core = record { emulator = core.emulator; request = reader.begun; command = core.command }
 
 rejoined : (begun bytes : List ℕ) (used : ℕ) → (begun ++ take used bytes) ++ drop used bytes ≡ begun ++ bytes
 rejoined begun bytes used = append_assoc begun (take used bytes) (drop used bytes) ∙ ap (λ (r : List ℕ). begun ++ r) (take-append-drop used bytes)
 
--- a channel that is open hears by what stands at the front
-listening : (bytes : List ℕ) (used : ℕ) (out : List ℕ) (e f : EmulatorState) (heard : Option Heard) → e.desk.closed ≡ false → heard_in (e.request ++ bytes) ≡ heard → HearsBy heard bytes used out e f → Controls bytes used out e f
+-- a channel that is open hears by what stands at the start
+listening : (bytes : List ℕ) (used : ℕ) (out : List ℕ) (e f : BufferedEmulator) (heard : Option Heard) → e.emulator.closed ≡ false → heard_in (e.request ++ bytes) ≡ heard → HearsBy heard bytes used out e f → Controls bytes used out e f
 listening bytes used out e f heard listens is step =
     subst (λ (b : Bool). ControlsBy b bytes used out e f) (sym listens) (subst (λ (h : Option Heard). HearsBy h bytes used out e f) (sym is) step)
 
--- where the bytes are of no message, no front of them is told as one
+-- where the bytes are of no message, no prefix of them is decoded as one
 undecided_is_open : (bytes : List ℕ) → IsBytes bytes → IsUndecided bytes → IsOpen requests bytes
 undecided_is_open bytes fits none (Ok q) n spelled = none.no_request n q (drop 16 (take n bytes)) (says (Ok q) (take n bytes) (IsBytes-take n bytes fits) spelled)
 undecided_is_open bytes fits none (Err fault) n spelled = none.no_refusal n fault (says (Err fault) (take n bytes) (IsBytes-take n bytes fits) spelled)
 
-pub heard_more : (bytes : List ℕ) (used : ℕ) (out : List ℕ) (reader now : Reading) (board : BoardState) → board.desk.closed ≡ false → IsBytes reader.begun → IsBytes bytes
-    → IsUndecided (reader.begun ++ bytes) → IsAfter reader bytes used More now → out ≡ [] → Controls bytes used out (state_of reader board) (state_of now board)
-heard_more bytes used out reader now board listens begun_fits fits none after empty =
-    listening bytes used out (state_of reader board) (state_of now board) None listens (heard_open (reader.begun ++ bytes) (undecided_is_open (reader.begun ++ bytes) (IsBytes-append reader.begun bytes begun_fits fits) none)) (record {
-      state = ap (λ (r : Reading). state_of r board) after.2;
+pub heard_more : (bytes : List ℕ) (used : ℕ) (out : List ℕ) (reader now : ReaderState) (core : CoreState) → core.emulator.closed ≡ false → IsBytes reader.begun → IsBytes bytes
+    → IsUndecided (reader.begun ++ bytes) → IsReaderAfter reader bytes used More now → out ≡ [] → Controls bytes used out (state_of reader core) (state_of now core)
+heard_more bytes used out reader now core listens begun_fits fits none after empty =
+    listening bytes used out (state_of reader core) (state_of now core) None listens (heard_open (reader.begun ++ bytes) (undecided_is_open (reader.begun ++ bytes) (IsBytes-append reader.begun bytes begun_fits fits) none)) (record {
+      state = ap (λ (r : ReaderState). state_of r core) after.2;
       all_used = after.1;
       no_reply = empty;
     })
 
-pub heard_whole : (q : Request) (payload bytes : List ℕ) (used : ℕ) (out : List ℕ) (reader now : Reading) (board next : BoardState) → board.desk.closed ≡ false
-    → Asks q payload (reader.begun ++ take used bytes) → IsAfter reader bytes used (Whole q) now → Obeying q payload out board next → Controls bytes used out (state_of reader board) (state_of now next)
-heard_whole q payload bytes used out reader now board next listens asks after obeying =
-    let front : heard_in (reader.begun ++ bytes) ≡ Some (Asked q payload) = ap heard_in (sym (rejoined reader.begun bytes used)) ∙ heard_front q payload (reader.begun ++ take used bytes) (drop used bytes) asks in
-    listening bytes used out (state_of reader board) (state_of now next) (Some (Asked q payload)) listens front (record {
-      turn = obeying.turn;
+pub heard_whole : (q : Request) (payload bytes : List ℕ) (used : ℕ) (out : List ℕ) (reader now : ReaderState) (core next : CoreState) → core.emulator.closed ≡ false
+    → Asks q payload (reader.begun ++ take used bytes) → IsReaderAfter reader bytes used (Whole q) now → HandledRequest q payload out core next → Controls bytes used out (state_of reader core) (state_of now next)
+heard_whole q payload bytes used out reader now core next listens asks after obeying =
+    let prefix : heard_in (reader.begun ++ bytes) ≡ Some (Asked q payload) = ap heard_in (sym (rejoined reader.begun bytes used)) ∙ heard_prefix q payload (reader.begun ++ take used bytes) (drop used bytes) asks in
+    listening bytes used out (state_of reader core) (state_of now next) (Some (Asked q payload)) listens prefix (record {
+      request_outcome = obeying.request_outcome;
       hears = obeying.obeys;
-      state = ap (λ (r : Reading). state_of r next) after.1 ∙ ap (λ (b : BoardState). record { desk = b.desk; request = []; command = b.command }) obeying.state;
+      state = ap (λ (r : ReaderState). state_of r next) after.1 ∙ ap (λ (b : CoreState). record { emulator = b.emulator; request = []; command = b.command }) obeying.state;
       replies = obeying.replies;
       message = asks;
     })
 
-pub heard_refused : (fault : RequestFault) (bytes : List ℕ) (used : ℕ) (out : List ℕ) (reader now : Reading) (board next : BoardState) → board.desk.closed ≡ false
-    → Refuses fault (reader.begun ++ take used bytes) → now ≡ record reader { begun = []; failed = true } → next ≡ record board { desk = record board.desk { closed = true } }
-    → out ≡ reply_spelling (reply.Result (fault_result fault)) [] → Controls bytes used out (state_of reader board) (state_of now next)
-heard_refused fault bytes used out reader now board next listens refuses after closed replies =
-    let front : heard_in (reader.begun ++ bytes) ≡ Some (Refused fault) = ap heard_in (sym (rejoined reader.begun bytes used)) ∙ refused_front fault (reader.begun ++ take used bytes) (drop used bytes) refuses in
-    listening bytes used out (state_of reader board) (state_of now next) (Some (Refused fault)) listens front (record {
-      turn = closed_for fault board.desk;
+pub heard_refused : (fault : RequestFault) (bytes : List ℕ) (used : ℕ) (out : List ℕ) (reader now : ReaderState) (core next : CoreState) → core.emulator.closed ≡ false
+    → Refuses fault (reader.begun ++ take used bytes) → now ≡ record reader { begun = []; failed = true } → next ≡ record core { emulator = record core.emulator { closed = true } }
+    → out ≡ encode_reply (reply.Result (fault_result fault)) [] → Controls bytes used out (state_of reader core) (state_of now next)
+heard_refused fault bytes used out reader now core next listens refuses after closed replies =
+    let prefix : heard_in (reader.begun ++ bytes) ≡ Some (Refused fault) = ap heard_in (sym (rejoined reader.begun bytes used)) ∙ refused_prefix fault (reader.begun ++ take used bytes) (drop used bytes) refuses in
+    listening bytes used out (state_of reader core) (state_of now next) (Some (Refused fault)) listens prefix (record {
+      request_outcome = closed_for fault core.emulator;
       hears = refl;
-      state = ap (λ (r : Reading). state_of r next) after ∙ ap (λ (b : BoardState). record { desk = b.desk; request = []; command = b.command }) closed;
+      state = ap (λ (r : ReaderState). state_of r next) after ∙ ap (λ (b : CoreState). record { emulator = b.emulator; request = []; command = b.command }) closed;
       replies = replies;
       message = refuses;
     })

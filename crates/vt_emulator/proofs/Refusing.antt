@@ -2,9 +2,9 @@
 use Rattle.std.proofs.Common.{ℕ, Bool, true, false, List, Result, Ok, Err}
 use Rattle.std.specs.Prelude.{IfOk, OnOk}
 use Rattle.std.specs.Bool.{OnTrue, OnFalse}
-use Rattle.vt_base.specs.declared.words.Kind.{Kind}
-use Rattle.vt_base.specs.declared.words.Malformed.{Malformed}
-use Rattle.state_blobs.specs.Texts.{IsBlob}
+use Rattle.vt_base.specs.declared.types.Kind.{Kind}
+use Rattle.vt_base.specs.declared.types.Malformed.{Malformed}
+use Rattle.state_blobs.specs.Encodings.{IsBlob}
 use Rattle.state_blobs.specs.Refusals.{IsRefused, IsCut}
 
 -- where blobs aren't refused, what a gather took isn't, whole or not

@@ -1,3 +1,3 @@
 pub mod Emulator
-pub mod Board
+pub mod CoreStates
 pub mod Inside

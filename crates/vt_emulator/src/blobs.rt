@@ -1,13 +1,12 @@
 //! The blobs that are gathered for another TPM.
 
 ghost use Rattle.std.specs.Prelude.{◌≡◌, ◌++◌, [], not, IfOk, IfErr, OnOk, OnErr};
-ghost use Rattle.ctrl_client.specs.Desk.{no_gathers, gather_of, with_gather, is_nil, is_nothing};
+ghost use Rattle.ctrl_model.specs.Emulator.{no_gathers, gather_of, with_gather, is_nil, is_nothing};
 ghost use Rattle.state_blobs.specs.Assembly.{IsAssembled, IsFault};
 ghost use Rattle.state_blobs.specs.Refusals.{IsRefused};
-ghost use Rattle.vt_emulator.specs.Board.{counting};
-ghost use Rattle.vt_base.specs.declared.words.Malformed.{Malformed};
+ghost use Rattle.vt_emulator.specs.CoreStates.{counting};
+ghost use Rattle.vt_base.specs.declared.types.Malformed.{Malformed};
 
-use state_blobs::laws::blobs_are_told_apart;
 use state_blobs::{BlobFault, Gather, assemble};
 use std::alloc::{AllocError, Global};
 use std::marker::Model;
@@ -25,8 +24,8 @@ pub(crate) struct Blobs {
 }
 
 impl Model for Blobs {
-    ghost use Rattle.ctrl_client.specs.Desk.{Gathers};
-    ghost use Rattle.vt_emulator.specs.Board.{AreInPlace};
+    ghost use Rattle.ctrl_model.specs.Emulator.{Gathers};
+    ghost use Rattle.vt_emulator.specs.CoreStates.{AreInPlace};
 
     ghost Value = { Gathers };
 
@@ -104,7 +103,7 @@ fn push_to(gather: &mut Gather, bytes: &[u8]) -> Result<(), Malformed>
     ensures refused { IfErr result (λ fault. IsRefused gather.old.kind fault (gather.old.begun ++ bytes.now)) }
     ensures err { OnErr result (gather.new ≡ gather.old) }
 {
-    blobs_are_told_apart();
+    state_blobs::laws::blobs_are_prefix_free();
     gather.push(bytes)?;
     Ok(())
 }

@@ -1,8 +1,8 @@
-//! The command in hand.
+//! The pending command.
 
 ghost use Rattle.std.specs.Prelude.{◌≡◌, ◌≤◌, [], length, is_some, true, None, option_map, IfOk, IfSome};
-ghost use Rattle.ctrl_client.specs.Desk.{marked};
-ghost use Rattle.vt_emulator.specs.Board.{Takes};
+ghost use Rattle.ctrl_model.specs.Emulator.{cancelled_command};
+ghost use Rattle.vt_emulator.specs.CoreStates.{Takes};
 
 use std::alloc::{AllocError, Global};
 use std::marker::Model;
@@ -18,14 +18,14 @@ pub(crate) struct Commands {
 
 impl Model for Commands {
     ghost use Rattle.std.specs.Bool.{OnTrue, OnFalse};
-    ghost use Rattle.tpm_frame.specs.Frames.{IsFrame, IsPart};
-    ghost use Rattle.vt_emulator.specs.Board.{InHand, in_hand};
+    ghost use Rattle.tpm_frame.specs.Frames.{IsFrame, IsPartOfFrame};
+    ghost use Rattle.vt_emulator.specs.CoreStates.{CommandChannel, command_channel};
 
-    ghost Value = { InHand };
+    ghost Value = { CommandChannel };
 
-    ghost view = { λ c. in_hand c.whole c.cancelled c.cutter };
+    ghost view = { λ c. command_channel c.whole c.cancelled c.cutter };
 
-    ghost invariant = { λ c. OnTrue c.whole (IsFrame c.cutter) × OnFalse c.whole (IsPart c.cutter) };
+    ghost invariant = { λ c. OnTrue c.whole (IsFrame c.cutter) × OnFalse c.whole (IsPartOfFrame c.cutter) };
 }
 
 impl Commands {
@@ -83,7 +83,7 @@ impl Commands {
 
     /// Notes that a cancel came for the command that is held, if there is one.
     pub(crate) fn cancel(&mut self)
-        ensures { self.new ≡ record self.old { held = option_map marked self.old.held } }
+        ensures { self.new ≡ record self.old { held = option_map cancelled_command self.old.held } }
     {
         self.cancelled = true;
     }

@@ -2,12 +2,12 @@
 
 ghost use Rattle.std.specs.Prelude.{◌≡◌, ◌≤◌, [], false, length, is_some, Some, None, option_map, IfOk};
 ghost use Rattle.tpm_core.specs.Fresh.{manufactured};
-ghost use Rattle.vt_emulator.specs.Emulator.{EmulatorState, IsSound, fresh_emulator};
+ghost use Rattle.vt_emulator.specs.Emulator.{BufferedEmulator, IsConsistentEmulator, fresh_emulator};
 
-use crate::board::Board;
 use crate::desk::{Desk, Heard};
-use ctrl_client::{BAD_ORDINAL, BAD_PARAMETER, LARGEST_PIECE};
+use crate::emulator_core::EmulatorCore;
 use ctrl_codec::{FedRequest, Out, RequestReader};
+use ctrl_model::{BAD_ORDINAL, BAD_PARAMETER, LARGEST_PIECE};
 use std::alloc::{AllocError, Global};
 use std::marker::Model;
 use tpm_core::{SEED_SIZE, Tpm};
@@ -18,18 +18,18 @@ use vt_base::Buf;
 #[derive(Drop)]
 pub struct Emulator {
     reader: RequestReader,
-    board: Board,
+    core: EmulatorCore,
 }
 
 impl Model for Emulator {
-    ghost use Rattle.vt_emulator.specs.Emulator.{EmulatorState};
+    ghost use Rattle.vt_emulator.specs.Emulator.{BufferedEmulator};
     ghost use Rattle.vt_emulator.specs.Inside.{IsListening};
 
-    ghost Value = { EmulatorState };
+    ghost Value = { BufferedEmulator };
 
-    ghost view = { λ e. record { desk = e.board.desk; request = e.reader.begun; command = e.board.command } };
+    ghost view = { λ e. record { emulator = e.core.emulator; request = e.reader.begun; command = e.core.command } };
 
-    ghost invariant = { λ e. IsListening e.reader e.board };
+    ghost invariant = { λ e. IsListening e.reader e.core };
 }
 
 impl Emulator {
@@ -41,7 +41,7 @@ impl Emulator {
     {
         Ok(Emulator {
             reader: RequestReader::new(alloc)?,
-            board: Board::new(alloc, Some(Tpm::manufacture(seed)), piece)?,
+            core: EmulatorCore::new(alloc, Some(Tpm::manufacture(seed)), piece)?,
         })
     }
 
@@ -53,16 +53,16 @@ impl Emulator {
     {
         Ok(Emulator {
             reader: RequestReader::new(alloc)?,
-            board: Board::new(alloc, None, piece)?,
+            core: EmulatorCore::new(alloc, None, piece)?,
         })
     }
 
     /// Another control connection begins: the part of a request is forgotten, and the channel is open.
     pub fn open_control(&mut self)
-        ensures { self.new ≡ record self.old { desk = record self.old.desk { closed = false }; request = [] } }
+        ensures { self.new ≡ record self.old { emulator = record self.old.emulator { closed = false }; request = [] } }
     {
         self.reader.clear();
-        self.board.open();
+        self.core.open();
     }
 
     /// Forgets the part of a request that came so far. A channel that is closed stays closed.
@@ -76,29 +76,29 @@ impl Emulator {
     pub fn forget_command(&mut self)
         ensures { self.new ≡ record self.old { command = [] } }
     {
-        self.board.forget();
+        self.core.forget();
     }
 
     /// Whether a whole command is held.
     pub fn holds(&self) -> bool
-        ensures { result ≡ is_some self.now.desk.held }
+        ensures { result ≡ is_some self.now.emulator.held }
     {
-        self.board.holds()
+        self.core.holds()
     }
 
     /// Whether the control channel is closed.
     pub fn is_closed(&self) -> bool
-        ensures { result ≡ self.now.desk.closed }
+        ensures { result ≡ self.now.emulator.closed }
     {
-        self.board.is_closed()
+        self.core.is_closed()
     }
 
     /// The TPM, if there is one.
     pub fn tpm(&self) -> Option<&Tpm>
-        ensures tpm { option_map (λ t. t.now) result ≡ self.now.desk.tpm }
-        ensures sound { IsSound self.now.desk }
+        ensures tpm { option_map (λ t. t.now) result ≡ self.now.emulator.tpm }
+        ensures consistent { IsConsistentEmulator self.now.emulator }
     {
-        self.board.tpm()
+        self.core.tpm()
     }
 }
 
@@ -106,7 +106,7 @@ impl Desk for Emulator {
     ghost state = { λ e. Some e };
 
     fn control(&mut self, bytes: &[u8], out: &mut Out) -> Heard {
-        if self.board.is_closed() {
+        if self.core.is_closed() {
             return Heard {
                 used: 0,
                 closed: true,
@@ -115,22 +115,24 @@ impl Desk for Emulator {
         let (used, fed) = self.reader.feed(bytes);
         match fed {
             FedRequest::More => {}
-            FedRequest::Whole(request) => self.board.obey(request, self.reader.data(), out),
-            FedRequest::BadCode(_) => self.board.refuse(BAD_ORDINAL, out),
-            FedRequest::BadLength(_) => self.board.refuse(BAD_PARAMETER, out),
+            FedRequest::Whole(request) => self
+                .core
+                .handle_request(request, self.reader.data(), out),
+            FedRequest::BadCode(_) => self.core.refuse(BAD_ORDINAL, out),
+            FedRequest::BadLength(_) => self.core.refuse(BAD_PARAMETER, out),
             FedRequest::Failed => unreachable!(),
         }
         Heard {
             used,
-            closed: self.board.is_closed(),
+            closed: self.core.is_closed(),
         }
     }
 
     fn data(&mut self, bytes: &[u8]) -> Took {
-        self.board.feed(bytes)
+        self.core.feed(bytes)
     }
 
     fn run_held(&mut self, into: &mut Buf) -> usize {
-        self.board.run_held(into)
+        self.core.run_held(into)
     }
 }

@@ -20,10 +20,10 @@
 #![tactic(auto)]
 
 mod blobs;
-mod board;
 mod commands;
 mod desk;
 mod emulator;
+mod emulator_core;
 pub mod laws;
 
 pub use desk::{Desk, Heard};

@@ -7,21 +7,21 @@ use Rattle.vt_script.specs.Replies.{hex_digit, hex_digits}
 
 -- a number of n digits with one more digit has n + 1 digits
 pub number_grows : (number base digit n : ℕ) → number < base ^ n → digit < base → number * base + digit < base ^ (n + 1)
-number_grows number base digit n few below =
-    let more : suc number * base ≤ base ^ n * base = mul-le-mul_right base few in
+number_grows number base digit n within_limit below =
+    let more : suc number * base ≤ base ^ n * base = mul-le-mul_right base within_limit in
     let power : base ^ (n + 1) ≡ base ^ n * base = pow_more base n in
     let same : suc number * base ≡ number * base + base = suc-mul number base in
     omega arith
 
 -- sixteen digits in a base of sixteen at most fit eight bytes
 pub digits_fit : (base n : ℕ) → 1 ≤ base → base ≤ 16 → n ≤ 16 → base ^ n ≤ 16 ^ 16
-digits_fit base n some small few =
+digits_fit base n some small within_limit =
     let in_base : base ^ n ≤ 16 ^ n = pow-le-pow_left small n in
-    let in_place : 16 ^ n ≤ 16 ^ 16 = pow-le-pow_right (lit< tt) few in
+    let in_place : 16 ^ n ≤ 16 ^ 16 = pow-le-pow_right (lit< tt) within_limit in
     omega arith
 
 pub power_grows : (base n m : ℕ) → 1 ≤ base → n ≤ m → base ^ n ≤ base ^ m
-power_grows base n m some few = pow-le-pow_right some few
+power_grows base n m some within_limit = pow-le-pow_right some within_limit
 
 pub power256 : (n : ℕ) → 16 ^ (2 * n) ≡ 256 ^ n
 power256 zero = refl

@@ -95,7 +95,7 @@ fn parse_drive_words(
 }
 
 /// What a drive line asks for; a line comes without the LF that ends it. `Ok(None)` comes where the line isn't in the
-/// grammar; an `Err` is want of memory, which comes for a command alone.
+/// grammar; an `Err` is lack of memory, which comes for a command alone.
 ///
 /// The lines are `cmd HEX`, `move` and `movefail K`, with one space between words and nothing else. HEX has two
 /// hexadecimal digits of either case for each byte of a command of 10 to 3968 bytes, whose bytes 2 to 5, the highest
@@ -120,7 +120,7 @@ pub fn commands_are_read_as_spelled()
         drive_of (codes "cmd " ++ encode_lower bytes) ≡ Some (DriveLine.Cmd bytes) }
 {}
 
-/// Appends the text of a response: two lower-case hexadecimal digits for each byte, and LF. An `Err` is want of memory.
+/// Appends the text of a response: two lower-case hexadecimal digits for each byte, and LF. An `Err` is lack of memory.
 #[tactic(auto, unfolding(crate::specs::Replies::hex_line))]
 pub fn print_response(alloc: Global, response: &[u8], into: &mut Vec<u8>) -> Result<(), AllocError>
     ensures ok { OnOk result (into.new.items ≡ into.old.items ++ hex_line response.now) }

@@ -7,7 +7,7 @@ ghost use Rattle.vt_script.specs.Script.{parts_of, read_of, write_of, fail_of, o
 use crate::number::{number, ordinal};
 use crate::parts::{SPACE, first_part};
 use crb_regs::Access;
-use move_codec::HostName;
+use vt_base::HostName;
 
 /// How many digits an offset has at most.
 const OFFSET_DIGITS: usize = 3;

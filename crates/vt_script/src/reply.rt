@@ -96,7 +96,7 @@ fn digit(value: u64, k: u32) -> u8
 
 // Puts so many digits of a number in front, the highest first.
 fn put_digits(text: &mut [u8], value: u64, count: usize)
-    requires few { count ≤ 16 }
+    requires within_limit { count ≤ 16 }
     requires room { count ≤ length text.old }
     ensures digits { take count text.new ≡ hex_digits count value }
     ensures length { length text.new ≡ length text.old }
@@ -161,7 +161,7 @@ fn push_offered(
     into.extend_from_slice(text.as_bytes())
 }
 
-/// Appends the text of a reply and LF. An `Err` is want of memory. The texts are our own; a value has two lower-case
+/// Appends the text of a reply and LF. An `Err` is lack of memory. The texts are our own; a value has two lower-case
 /// hexadecimal digits for each byte, as has a message that is shown; the other numbers are in decimal.
 #[tactic(auto, unfolding(crate::specs::Replies::reply_text))]
 pub fn print_reply(alloc: Global, reply: &Reply, into: &mut Vec<u8>) -> Result<(), AllocError>

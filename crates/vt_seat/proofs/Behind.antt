@@ -6,26 +6,26 @@ use Rattle.std.specs.Str.{bytes_eq}
 use Rattle.std.proofs.lemmas.Slice.Eq.{bytes_eq-Decides}
 use Rattle.std.proofs.lemmas.Bool.Decides.{nat_tests}
 use Rattle.std.proofs.lemmas.List.{take_all, take-take, drop-take, length-take, drop_all}
-use Rattle.vt_base.specs.declared.words.Chan.TheVariants.{Data}
-use Rattle.vt_base.proofs.Layouts.{judged_spells}
-use Rattle.tpm_frame.specs.Frame.{number_at}
+use Rattle.vt_base.specs.declared.types.Chan.TheVariants.{Data}
+use Rattle.vt_base.proofs.Layouts.{parsed_encodes}
+use Rattle.tpm_frame.specs.Frame.{big_endian_at}
 use Rattle.tpm_frame.specs.Frames.{frames, frame_length_of, first_frame, IsFrame}
 use Rattle.tpm_frame.specs.Sizes.{named_size}
-use Rattle.tpm_frame.proofs.Parts.{first_tell, front_is_frame}
+use Rattle.tpm_frame.proofs.Parts.{first_tell, prefix_is_frame}
 use Rattle.tpm_core.specs.declared.parts.TpmParts.{TpmParts}
 use Rattle.tpm_core.specs.Answers.{answer, values_after}
 use Rattle.tpm_core.specs.Responses.{cancelled, IsResponse}
-use Rattle.tpm_core.specs.Steps.{IsFit}
+use Rattle.tpm_core.specs.Steps.{IsValid}
 use Rattle.tpm_core.proofs.Replies.{answer_is_response, reply_not_cancelled}
-use Rattle.ctrl_client.specs.Desk.{Desk, Held, holding, response_to, ran}
-use Rattle.ctrl_client.specs.Link.{Link, Lane, empty_lane, Handed, HandedBy, takes, framed, opened, opened_by, at_hand, received, cut}
-use Rattle.ctrl_client.specs.Link as link
+use Rattle.ctrl_model.specs.Emulator.{EmulatorState, PendingCommand, holding, response_to, ran}
+use Rattle.ctrl_model.specs.Link.{Link, ChannelState, empty_channel, Handed, HandedBy, takes, with_frame, opened, opened_by, receivable, received, cut}
+use Rattle.ctrl_model.specs.Link as link
 use Rattle.ctrl_client.specs.Exchange.{IsQuiet}
 use Rattle.crb_history.specs.Bytes.{command_in}
-use Rattle.crb_history.specs.Device.Stage.{HasSent, HasRun}
+use Rattle.crb_history.specs.Device.JobStage.{HasSent, HasHeader}
 use Rattle.crb_history.proofs.Bytes.{take-command_in, frame_length-most}
 use Rattle.crb_worker.specs.Heads.{is_head, is_cancelled}
-use Rattle.vt_seat.specs.Follows.{given, tpm_behind, IsDesk, IsBehind}
+use Rattle.vt_seat.specs.Follows.{given, tpm_behind, IsEmulator, IsBehind}
 use Rattle.vt_seat.proofs.Jobs.{Rests}
 
 -- ---- the command of a buffer
@@ -38,39 +38,39 @@ command-heard : (buf : List ℕ) → length buf ≡ 3968 → link.command_in (fi
 unfolding link.command_in
 command-heard buf whole =
     let size : ℕ = frame_length_of (take 6 buf) in
-    let few : size ≤ 3968 = frame_length-most (take 6 buf) in
-    let frame : IsFrame (first_frame buf) = front_is_frame buf size (first_tell buf) (omega arith) in
+    let within_limit : size ≤ 3968 = frame_length-most (take 6 buf) in
+    let frame : IsFrame (first_frame buf) = prefix_is_frame buf size (first_tell buf) (omega arith) in
     let head : take 6 (first_frame buf) ≡ take 6 buf = take-take 6 size buf (omega arith) in
     let long : length (first_frame buf) ≡ size = omega (arith, length-take size buf) in
     let all : take (frame_length_of (take 6 (first_frame buf))) (first_frame buf) ≡ first_frame buf = ap (λ (h : List ℕ). take (frame_length_of h) (first_frame buf)) head ∙ take_all size (first_frame buf) (omega arith) in
-    rw (judged_spells frames (first_frame buf) tt frame) (ap Some all)
+    rw (parsed_encodes frames (first_frame buf) tt frame) (ap Some all)
 
 -- ---- a command is sent
 
 -- a link that is quiet stays so where its control channel is left alone
-pub quiet-same : (l m : Link) → m.control ≡ l.control → m.desk.closed ≡ l.desk.closed → IsQuiet l → IsQuiet m
+pub quiet-same : (l m : Link) → m.control ≡ l.control → m.emulator.closed ≡ l.emulator.closed → IsQuiet l → IsQuiet m
 quiet-same l m control closed quiet = record { nothing = control ∙ quiet.nothing; listens = closed ∙ quiet.listens }
 
 rests_takes : (t : TpmParts) (l : Link) → Rests t l → takes Data l ≡ true
-rests_takes t l rests = rw (rests.desk.held_is, rests.lane) refl
+rests_takes t l rests = rw (rests.emulator.held_is, rests.channel) refl
 
-handed_framed : (all bytes : List ℕ) (found : Option (List ℕ)) (l m : Link) → takes Data l ≡ true → l.commands.begun ++ bytes ≡ all → link.command_in all ≡ found → Handed Data bytes l m → m ≡ framed found all l
+handed_framed : (all bytes : List ℕ) (found : Option (List ℕ)) (l m : Link) → takes Data l ≡ true → l.commands.begun ++ bytes ≡ all → link.command_in all ≡ found → Handed Data bytes l m → m ≡ with_frame found all l
 handed_framed all bytes found l m open_now whole is handed =
-    let here : m ≡ framed (link.command_in (l.commands.begun ++ bytes)) (l.commands.begun ++ bytes) l = subst (λ (b : Bool). HandedBy b Data bytes l m) open_now handed in
-    here ∙ ap (λ (x : List ℕ). framed (link.command_in x) x l) whole ∙ ap (λ (f : Option (List ℕ)). framed f all l) is
+    let here : m ≡ with_frame (link.command_in (l.commands.begun ++ bytes)) (l.commands.begun ++ bytes) l = subst (λ (b : Bool). HandedBy b Data bytes l m) open_now handed in
+    here ∙ ap (λ (x : List ℕ). with_frame (link.command_in x) x l) whole ∙ ap (λ (f : Option (List ℕ)). with_frame f all l) is
 
 -- the emulator holds it
 pub sent_behind : (t : TpmParts) (x buf : List ℕ) (l m : Link) → Rests t l → IsQuiet l → length buf ≡ 3968 → command_in (slice_index buf) ≡ x → Handed Data (first_frame buf) l m → IsBehind (Some HasSent) false t x m × IsQuiet m
 sent_behind t x buf l m rests quiet whole is handed =
     let command : first_frame buf ≡ x = first_frame-command buf whole ∙ is in
-    let begun : l.commands.begun ++ first_frame buf ≡ first_frame buf = ap (λ (lane : Lane). lane.begun ++ first_frame buf) rests.lane in
-    let now : m ≡ record l { desk = holding (first_frame buf) l.desk; commands = empty_lane } = handed_framed (first_frame buf) (first_frame buf) (Some (first_frame buf)) l m (rests_takes t l rests) begun (command-heard buf whole) handed in
+    let begun : l.commands.begun ++ first_frame buf ≡ first_frame buf = ap (λ (channel : ChannelState). channel.begun ++ first_frame buf) rests.channel in
+    let now : m ≡ record l { emulator = holding (first_frame buf) l.emulator; commands = empty_channel } = handed_framed (first_frame buf) (first_frame buf) (Some (first_frame buf)) l m (rests_takes t l rests) begun (command-heard buf whole) handed in
     rw now (
       record {
-        desk = record { tpm = rests.desk.tpm; on = rests.desk.on; stored = rests.desk.stored; gathers = rests.desk.gathers; held_is = ap (λ c. Some (record { command = c; cancelled = false })) command };
-        lane = refl;
+        emulator = record { tpm = rests.emulator.tpm; on = rests.emulator.on; stored = rests.emulator.stored; gathers = rests.emulator.gathers; held_is = ap (λ c. Some (record { command = c; cancelled = false })) command };
+        channel = refl;
       },
-      quiet-same l (record l { desk = holding (first_frame buf) l.desk; commands = empty_lane }) refl refl quiet,
+      quiet-same l (record l { emulator = holding (first_frame buf) l.emulator; commands = empty_channel }) refl refl quiet,
     )
 
 -- ---- the response
@@ -81,13 +81,13 @@ pub record IsGiven (in_time : Bool) (bytes : List ℕ) : Type 0 where
   pub most : length bytes ≤ 3968
   pub head : is_head (take 10 bytes) ≡ true
   pub size : named_size (take 10 bytes) ≡ length bytes
-  pub tells : is_cancelled bytes ≡ in_time
+  pub is_said : is_cancelled bytes ≡ in_time
 
 -- a number in the header is one of the whole
-number-head : (w : Width) (at : ℕ) (bytes : List ℕ) → at + byte_len w ≤ 10 → number_at w at (take 10 bytes) ≡ number_at w at bytes
+number-head : (w : Width) (at : ℕ) (bytes : List ℕ) → at + byte_len w ≤ 10 → big_endian_at w at (take 10 bytes) ≡ big_endian_at w at bytes
 number-head w at bytes fits =
     let ten : at + (10 - at) ≡ 10 = omega arith in
-    ap (λ n. number_at w at (take n bytes)) (sym ten) ∙ ap (λ (xs : List ℕ). from_be_bytes w (take (byte_len w) xs)) (drop-take at (10 - at) bytes) ∙ ap (from_be_bytes w) (take-take (byte_len w) (10 - at) (drop at bytes) (omega arith))
+    ap (λ n. big_endian_at w at (take n bytes)) (sym ten) ∙ ap (λ (xs : List ℕ). from_be_bytes w (take (byte_len w) xs)) (drop-take at (10 - at) bytes) ∙ ap (from_be_bytes w) (take-take (byte_len w) (10 - at) (drop at bytes) (omega arith))
 
 bytes_differ : (xs ys : List ℕ) → xs ≢ ys → bytes_eq xs ys ≡ false
 bytes_differ xs ys other = grind (arith, bytes_eq-Decides, other)
@@ -101,33 +101,33 @@ response-given bytes is other =
       most = is.room;
       head = rw (tag, size) (grind (arith, nat_tests, is.tag, is.head, is.room));
       size = size;
-      tells = bytes_differ bytes cancelled other;
+      is_said = bytes_differ bytes cancelled other;
     }
 
 not_cancelled : (t : TpmParts) (x : List ℕ) → answer t [] x ≢ cancelled
 unfolding answer
 not_cancelled t x = reply_not_cancelled (values_after t []) _
 
-pub given-is : (in_time : Bool) (t : TpmParts) (x : List ℕ) → IsFit t → IsGiven in_time (given in_time t x)
-given-is true t x fit = record { least = omega arith; most = omega arith; head = refl; size = refl; tells = refl }
+pub given-is : (in_time : Bool) (t : TpmParts) (x : List ℕ) → IsValid t → IsGiven in_time (given in_time t x)
+given-is true t x fit = record { least = omega arith; most = omega arith; head = refl; size = refl; is_said = refl }
 given-is false t x fit = response-given (answer t [] x) (answer_is_response t [] x fit) (not_cancelled t x)
 
-response_held : (in_time : Bool) (t : TpmParts) (x : List ℕ) (d : Desk) (held : Option Held) → IsDesk d t held → response_to (record { command = x; cancelled = in_time }) d ≡ given in_time t x
+response_held : (in_time : Bool) (t : TpmParts) (x : List ℕ) (d : EmulatorState) (held : Option PendingCommand) → IsEmulator d t held → response_to (record { command = x; cancelled = in_time }) d ≡ given in_time t x
 response_held true t x d held is = rw is.on refl
 response_held false t x d held is = rw (is.on, is.tpm) refl
 
 -- once it is given the command was executed, unless a cancel came in time
-ran_desk : (in_time : Bool) (t : TpmParts) (x : List ℕ) (d : Desk) (held : Option Held) → IsDesk d t held → IsDesk (ran (record { command = x; cancelled = in_time }) d) (tpm_behind (Some HasRun) in_time t x) None
-ran_desk true t x d held is = rw (and_false d.on) (record { tpm = is.tpm; on = is.on; stored = is.stored; gathers = is.gathers; held_is = refl })
+ran_emulator : (in_time : Bool) (t : TpmParts) (x : List ℕ) (d : EmulatorState) (held : Option PendingCommand) → IsEmulator d t held → IsEmulator (ran (record { command = x; cancelled = in_time }) d) (tpm_behind (Some HasHeader) in_time t x) None
+ran_emulator true t x d held is = rw (and_false d.on) (record { tpm = is.tpm; on = is.on; stored = is.stored; gathers = is.gathers; held_is = refl })
   where
     and_false : (b : Bool) → (b && false) ≡ false
     and_false true = refl
     and_false false = refl
-ran_desk false t x d held is =
+ran_emulator false t x d held is =
     let executes : (d.on && true) ≡ true = rw is.on refl in
     rw executes (record { tpm = rw is.tpm refl; on = is.on; stored = refl; gathers = is.gathers; held_is = refl })
 
-closed_ran : (h : Held) (d : Desk) → (ran h d).closed ≡ d.closed
+closed_ran : (h : PendingCommand) (d : EmulatorState) → (ran h d).closed ≡ d.closed
 closed_ran h d = go (d.on && not h.cancelled) refl
   where
     go : (test : Bool) → (d.on && not h.cancelled) ≡ test → (ran h d).closed ≡ d.closed
@@ -135,51 +135,51 @@ closed_ran h d = go (d.on && not h.cancelled) refl
     go false is = rw is refl
 
 -- a receive has the command executed that is held
-opened_held : (h : Held) (l : Link) → l.commands ≡ empty_lane → l.desk.held ≡ Some h → opened Data l ≡ record l { desk = ran h l.desk; commands = record { begun = []; waiting = response_to h l.desk } }
-opened_held h l lane held =
-    let one : opened Data l ≡ opened_by [] l.desk.held l = ap (λ (x : Lane). opened_by x.waiting l.desk.held l) lane in
-    let two : opened_by [] l.desk.held l ≡ record l { desk = ran h l.desk; commands = record { begun = l.commands.begun; waiting = response_to h l.desk } } = ap (λ (x : Option Held). opened_by [] x l) held in
-    one ∙ two ∙ ap (λ (x : Lane). record l { desk = ran h l.desk; commands = record { begun = x.begun; waiting = response_to h l.desk } }) lane
+opened_held : (h : PendingCommand) (l : Link) → l.commands ≡ empty_channel → l.emulator.held ≡ Some h → opened Data l ≡ record l { emulator = ran h l.emulator; commands = record { begun = []; pending = response_to h l.emulator } }
+opened_held h l channel held =
+    let one : opened Data l ≡ opened_by [] l.emulator.held l = ap (λ (x : ChannelState). opened_by x.pending l.emulator.held l) channel in
+    let two : opened_by [] l.emulator.held l ≡ record l { emulator = ran h l.emulator; commands = record { begun = l.commands.begun; pending = response_to h l.emulator } } = ap (λ (x : Option PendingCommand). opened_by [] x l) held in
+    one ∙ two ∙ ap (λ (x : ChannelState). record l { emulator = ran h l.emulator; commands = record { begun = x.begun; pending = response_to h l.emulator } }) channel
 
-opened_none : (l : Link) → l.desk.held ≡ None → opened Data l ≡ l
-opened_none l none = go l.commands.waiting refl
+opened_none : (l : Link) → l.emulator.held ≡ None → opened Data l ≡ l
+opened_none l none = go l.commands.pending refl
   where
-    go : (waiting : List ℕ) → l.commands.waiting ≡ waiting → opened Data l ≡ l
-    go [] is = ap (λ (xs : List ℕ). opened_by xs l.desk.held l) is ∙ ap (λ (x : Option Held). opened_by [] x l) none
-    go (x ∷ xs) is = ap (λ (ys : List ℕ). opened_by ys l.desk.held l) is
+    go : (pending : List ℕ) → l.commands.pending ≡ pending → opened Data l ≡ l
+    go [] is = ap (λ (xs : List ℕ). opened_by xs l.emulator.held l) is ∙ ap (λ (x : Option PendingCommand). opened_by [] x l) none
+    go (x ∷ xs) is = ap (λ (ys : List ℕ). opened_by ys l.emulator.held l) is
 
 -- the response to the command that is held
-pub at_hand-held : (in_time : Bool) (t : TpmParts) (x : List ℕ) (l : Link) → IsBehind (Some HasSent) in_time t x l → at_hand Data l ≡ given in_time t x
+pub at_hand-held : (in_time : Bool) (t : TpmParts) (x : List ℕ) (l : Link) → IsBehind (Some HasSent) in_time t x l → receivable Data l ≡ given in_time t x
 at_hand-held in_time t x l is =
-    ap (λ (m : Link). m.commands.waiting) (opened_held (record { command = x; cancelled = in_time }) l is.lane is.desk.held_is) ∙ response_held in_time t x l.desk (Some (record { command = x; cancelled = in_time })) is.desk
+    ap (λ (m : Link). m.commands.pending) (opened_held (record { command = x; cancelled = in_time }) l is.channel is.emulator.held_is) ∙ response_held in_time t x l.emulator (Some (record { command = x; cancelled = in_time })) is.emulator
 
 -- its header is received
-pub head_behind : (in_time : Bool) (t : TpmParts) (x : List ℕ) (l : Link) → IsBehind (Some HasSent) in_time t x l → IsQuiet l → IsBehind (Some HasRun) in_time t x (received true Data 10 l) × IsQuiet (received true Data 10 l)
+pub head_behind : (in_time : Bool) (t : TpmParts) (x : List ℕ) (l : Link) → IsBehind (Some HasSent) in_time t x l → IsQuiet l → IsBehind (Some HasHeader) in_time t x (received true Data 10 l) × IsQuiet (received true Data 10 l)
 head_behind in_time t x l is quiet =
-    let h : Held = record { command = x; cancelled = in_time } in
-    let ran_now : opened Data l ≡ record l { desk = ran h l.desk; commands = record { begun = []; waiting = response_to h l.desk } } = opened_held h l is.lane is.desk.held_is in
-    let response = response_held in_time t x l.desk (Some h) is.desk in
-    let now : received true Data 10 l ≡ record l { desk = ran h l.desk; commands = record { begun = []; waiting = drop 10 (response_to h l.desk) } } = ap (λ (m : Link). link.taken Data 10 m) ran_now in
+    let h : PendingCommand = record { command = x; cancelled = in_time } in
+    let ran_now : opened Data l ≡ record l { emulator = ran h l.emulator; commands = record { begun = []; pending = response_to h l.emulator } } = opened_held h l is.channel is.emulator.held_is in
+    let response = response_held in_time t x l.emulator (Some h) is.emulator in
+    let now : received true Data 10 l ≡ record l { emulator = ran h l.emulator; commands = record { begun = []; pending = drop 10 (response_to h l.emulator) } } = ap (λ (m : Link). link.taken Data 10 m) ran_now in
     rw now (
-      record { desk = ran_desk in_time t x l.desk (Some h) is.desk; lane = ap (λ (r : List ℕ). record { begun = []; waiting = drop 10 r }) response },
-      quiet-same l (record l { desk = ran h l.desk; commands = record { begun = []; waiting = drop 10 (response_to h l.desk) } }) refl (closed_ran h l.desk) quiet,
+      record { emulator = ran_emulator in_time t x l.emulator (Some h) is.emulator; channel = ap (λ (r : List ℕ). record { begun = []; pending = drop 10 r }) response },
+      quiet-same l (record l { emulator = ran h l.emulator; commands = record { begun = []; pending = drop 10 (response_to h l.emulator) } }) refl (closed_ran h l.emulator) quiet,
     )
 
 -- what is left of it
-pub at_hand-rest : (in_time : Bool) (t : TpmParts) (x : List ℕ) (l : Link) → IsBehind (Some HasRun) in_time t x l → at_hand Data l ≡ drop 10 (given in_time t x)
-at_hand-rest in_time t x l is = ap (λ (m : Link). m.commands.waiting) (opened_none l is.desk.held_is) ∙ ap (λ (lane : Lane). lane.waiting) is.lane
+pub at_hand-rest : (in_time : Bool) (t : TpmParts) (x : List ℕ) (l : Link) → IsBehind (Some HasHeader) in_time t x l → receivable Data l ≡ drop 10 (given in_time t x)
+at_hand-rest in_time t x l is = ap (λ (m : Link). m.commands.pending) (opened_none l is.emulator.held_is) ∙ ap (λ (channel : ChannelState). channel.pending) is.channel
 
 -- and once that is received the emulator rests
-pub rest_behind : (in_time : Bool) (t : TpmParts) (x : List ℕ) (count : ℕ) (l : Link) → IsBehind (Some HasRun) in_time t x l → IsQuiet l → length (drop 10 (given in_time t x)) ≤ count → Rests (tpm_behind (Some HasRun) in_time t x) (received true Data count l) × IsQuiet (received true Data count l)
+pub rest_behind : (in_time : Bool) (t : TpmParts) (x : List ℕ) (count : ℕ) (l : Link) → IsBehind (Some HasHeader) in_time t x l → IsQuiet l → length (drop 10 (given in_time t x)) ≤ count → Rests (tpm_behind (Some HasHeader) in_time t x) (received true Data count l) × IsQuiet (received true Data count l)
 rest_behind in_time t x count l is quiet enough =
-    let now : received true Data count l ≡ link.taken Data count l = ap (λ (m : Link). link.taken Data count m) (opened_none l is.desk.held_is) in
-    let nothing : drop count l.commands.waiting ≡ [] = ap (λ (lane : Lane). drop count lane.waiting) is.lane ∙ drop_all count (drop 10 (given in_time t x)) enough in
-    let lane : (link.taken Data count l).commands ≡ empty_lane = ap (λ (xs : List ℕ). record { begun = l.commands.begun; waiting = xs }) nothing ∙ ap (λ (x : Lane). record { begun = x.begun; waiting = [] }) is.lane in
-    rw now (record { desk = record { tpm = is.desk.tpm; on = is.desk.on; stored = is.desk.stored; gathers = is.desk.gathers; held_is = is.desk.held_is }; lane = lane }, quiet-same l (link.taken Data count l) refl refl quiet)
+    let now : received true Data count l ≡ link.taken Data count l = ap (λ (m : Link). link.taken Data count m) (opened_none l is.emulator.held_is) in
+    let nothing : drop count l.commands.pending ≡ [] = ap (λ (channel : ChannelState). drop count channel.pending) is.channel ∙ drop_all count (drop 10 (given in_time t x)) enough in
+    let channel : (link.taken Data count l).commands ≡ empty_channel = ap (λ (xs : List ℕ). record { begun = l.commands.begun; pending = xs }) nothing ∙ ap (λ (x : ChannelState). record { begun = x.begun; pending = [] }) is.channel in
+    rw now (record { emulator = record { tpm = is.emulator.tpm; on = is.emulator.on; stored = is.emulator.stored; gathers = is.emulator.gathers; held_is = is.emulator.held_is }; channel = channel }, quiet-same l (link.taken Data count l) refl refl quiet)
 
 -- where nothing is left it rests already
-pub none_behind : (in_time : Bool) (t : TpmParts) (x : List ℕ) (l : Link) → IsBehind (Some HasRun) in_time t x l → drop 10 (given in_time t x) ≡ [] → Rests (tpm_behind (Some HasRun) in_time t x) l
-none_behind in_time t x l is none = record { desk = is.desk; lane = is.lane ∙ ap (λ (xs : List ℕ). record { begun = []; waiting = xs }) none }
+pub none_behind : (in_time : Bool) (t : TpmParts) (x : List ℕ) (l : Link) → IsBehind (Some HasHeader) in_time t x l → drop 10 (given in_time t x) ≡ [] → Rests (tpm_behind (Some HasHeader) in_time t x) l
+none_behind in_time t x l is none = record { emulator = is.emulator; channel = is.channel ∙ ap (λ (xs : List ℕ). record { begun = []; pending = xs }) none }
 
 -- a call that failed leaves the control channel
 pub quiet-cut : (l : Link) → IsQuiet l → IsQuiet (cut Data l)

@@ -2,9 +2,9 @@ pub mod Overwritten
 pub mod Jobs
 pub mod Writes
 pub mod Guests
-pub mod Orders
+pub mod InjectedFaults
 pub mod Behind
-pub mod Turns
+pub mod WorkerSteps
 pub mod Steps
 pub mod Asks
 pub mod Resets

@@ -9,53 +9,53 @@ use Rattle.crb_regs.specs.declared.phase.Phase.{Phase}
 use Rattle.crb_regs.specs.declared.phase.Phase.TheVariants.{Idle, Ready, Reception, Execution, Completion, Lost}
 use Rattle.crb_machine.specs.Over.{plain_device, slot_at}
 use Rattle.crb_machine.specs.State.{DeviceState, Slot}
-use Rattle.crb_machine.specs.State.Slot.{Home, Queued, Claimed as ClaimedSlot, Answered}
+use Rattle.crb_machine.specs.State.Slot.{InDevice, Queued, Claimed as ClaimedSlot, Answered}
 use Rattle.crb_regs.specs.Registers.{reset_regs}
 use Rattle.crb_machine.specs.Steps.{collected, reset_at, reset_of, reset_reply, reset_reply_at, after_reset, after_reset_at, failed, fresh_state}
 use Rattle.crb_machine.specs.Model.{DeviceModel}
 use Rattle.crb_machine.specs.declared.device.NotYet.{NotYet}
-use Rattle.crb_port.specs.declared.job.Standing.{Standing}
-use Rattle.crb_port.specs.declared.job.Standing.TheVariants as standing
+use Rattle.crb_port.specs.declared.job.PortState.{PortState}
+use Rattle.crb_port.specs.declared.job.PortState.TheVariants as port_state
 use Rattle.tpm_core.specs.Answers.{powered_on}
 use Rattle.tpm_core.specs.Answers.Entry.{PowerOn}
-use Rattle.tpm_core.specs.Steps.{IsFit}
+use Rattle.tpm_core.specs.Steps.{IsValid}
 use Rattle.tpm_core.specs.declared.parts.TpmParts.{TpmParts}
 use Rattle.tpm_core.specs.Fresh.{manufactured}
 use Rattle.tpm_core.proofs.Fit.{fit-manufactured}
 use Rattle.tpm_core.proofs.Law.{fit-past, values_after-append, values_after-power_on, no_past}
-use Rattle.crb_history.specs.Base.{Base, fresh}
+use Rattle.crb_history.specs.Snapshot.{Snapshot, fresh}
 use Rattle.crb_history.specs.Event.{History}
 use Rattle.crb_history.specs.Event.Event.{Reset as Resetting, ResetLost}
 use Rattle.crb_history.specs.Device.{phase_of, last_command, executed, stage_of}
-use Rattle.crb_history.specs.Device.Stage.{Waiting}
-use Rattle.crb_history.specs.Asked.{asked_in_time}
-use Rattle.crb_history.specs.Replies.{is_under_way}
-use Rattle.crb_history.specs.OneHost.{OneHost, fails_in}
+use Rattle.crb_history.specs.Device.JobStage.{Waiting}
+use Rattle.crb_history.specs.Cancelling.{cancelled_in_emulator}
+use Rattle.vt_transcript.specs.Replies.{is_under_way}
+use Rattle.vt_transcript.specs.OneHost.{OneHost, fails_in}
 use Rattle.crb_worker.specs.declared.progress.Progress.{Progress}
 use Rattle.crb_worker.specs.declared.progress.Progress.TheVariants.{Free}
 use Rattle.ctrl_codec.specs.declared.request.Request.TheVariants.{Init}
 use Rattle.ctrl_client.specs.declared.fault.ClientFault.{ClientFault}
-use Rattle.ctrl_client.specs.Desk.{Desk, Turn, Obeys, StartsBy, Gathers, is_nothing as is_nothing_gathered, started_here, switched_on, resulted}
-use Rattle.ctrl_client.specs.declared.profile.TheConstants.{SUCCESS}
-use Rattle.ctrl_client.specs.Link.{Link}
-use Rattle.ctrl_client.specs.Plan.{fails_within}
+use Rattle.ctrl_model.specs.Emulator.{EmulatorState, RequestOutcome, HandlesRequest, StartsBy, Gathers, is_nothing as is_nothing_gathered, started_here, switched_on, resulted}
+use Rattle.ctrl_model.specs.declared.profile.TheConstants.{SUCCESS}
+use Rattle.ctrl_model.specs.Link.{Link}
+use Rattle.ctrl_client.specs.Schedules.{fails_within}
 use Rattle.ctrl_client.specs.Exchange.{IsQuiet, Commands, CommandedBy}
 use Rattle.vt_script.specs.declared.event.Event.TheVariants.{Reset as ResetLine}
 use Rattle.vt_script.specs.declared.reply.Reply.TheVariants as replied
-use Rattle.vt_seat.specs.Wires.{is_due, passed, fresh_wires}
-use Rattle.vt_seat.specs.Follows.{Placed, place_of, tpm_at, IsDesk, Stands, Follows, FollowsIn, IsDue, StepsIn}
+use Rattle.vt_seat.specs.Wires.{fails_next, after_call, fresh_wires}
+use Rattle.vt_seat.specs.Follows.{Placed, place_of, tpm_at, IsEmulator, RefinesAt, Refines, RefinesOneHost, IsInjected, StepRefinesOneHost}
 use Rattle.vt_seat.specs.Follows.Placed.{AtHome, InQueue, InHand, OnWay, Ran}
 use Rattle.vt_seat.proofs.Jobs.{is_resting, Rests, to_rest, from_rest}
 use Rattle.vt_seat.proofs.Guests.{collected-collected}
-use Rattle.vt_seat.proofs.Turns.{raw_claimed}
-use Rattle.vt_seat.proofs.Orders.{fails-reaches, due-passed, due-failed, due-same}
+use Rattle.vt_seat.proofs.WorkerSteps.{raw_claimed}
+use Rattle.vt_seat.proofs.InjectedFaults.{fails-reaches, due-passed, due-failed, due-same}
 use Rattle.vt_seat.proofs.Steps.{the_same}
 use Rattle.vt_seat.proofs.Asks.{two-fail}
 
 -- ---- no command is under way
 
 -- what is known where no job is claimed
-pub record IsAtRest (b : Base) (p : History) (progress : Progress) : Type 0 where
+pub record IsAtRest (b : Snapshot) (p : History) (progress : Progress) : Type 0 where
   pub free : progress ≡ Free
   pub unclaimed : phase_of b p ≡ Execution → stage_of b p ≡ Waiting
   pub place : is_resting (place_of b p) ≡ true
@@ -64,7 +64,7 @@ pub record IsAtRest (b : Base) (p : History) (progress : Progress) : Type 0 wher
 not_executing : (phase : Phase) → is_executing phase ≡ false → phase ≡ Execution → ⊥
 not_executing phase still is = let wrong : is_executing Execution ≡ false = rw is at still in cc
 
-pub at_rest : (b : Base) (p : History) (slot : Slot) (progress : Progress) → slot ≢ ClaimedSlot → Placed b p slot progress → IsAtRest b p progress
+pub at_rest : (b : Snapshot) (p : History) (slot : Slot) (progress : Progress) → slot ≢ ClaimedSlot → Placed b p slot progress → IsAtRest b p progress
 at_rest b p slot progress open_slot (AtHome bytes still) = record { free = refl; unclaimed = λ is. absurd (not_executing (phase_of b p) still is); place = rw still refl; early = rw still refl }
 at_rest b p slot progress open_slot (InQueue job is) = record { free = refl; unclaimed = λ x. is.at.reached; place = rw (is.at.executing, is.at.reached) refl; early = rw (is.at.executing, is.at.reached) refl }
 at_rest b p slot progress open_slot (InHand job is) = absurd (open_slot refl)
@@ -72,11 +72,11 @@ at_rest b p slot progress open_slot (OnWay job is) = absurd (open_slot refl)
 at_rest b p slot progress open_slot (Ran job head is) = absurd (open_slot refl)
 
 -- what is known where one is
-pub record IsBusy (b : Base) (p : History) : Type 0 where
+pub record IsBusy (b : Snapshot) (p : History) : Type 0 where
   pub executing : phase_of b p ≡ Execution
   pub busy : is_under_way b p ≡ true
 
-pub busy_where : (b : Base) (p : History) (slot : Slot) (progress : Progress) → slot ≡ ClaimedSlot → Placed b p slot progress → IsBusy b p
+pub busy_where : (b : Snapshot) (p : History) (slot : Slot) (progress : Progress) → slot ≡ ClaimedSlot → Placed b p slot progress → IsBusy b p
 busy_where b p slot progress here (AtHome bytes still) = cc
 busy_where b p slot progress here (InQueue job is) = cc
 busy_where b p slot progress here (InHand job is) = record { executing = is.at.executing; busy = rw (is.at.executing, is.at.reached) refl }
@@ -85,7 +85,7 @@ busy_where b p slot progress here (Ran job head is) = record { executing = is.la
 
 -- ---- the device
 
-reset-working : (phase : Phase) (d : DeviceState) → phase ≢ Lost → reset_at phase d ≡ record d { regs = reset_regs; slot = Home (zeros 3968) }
+reset-working : (phase : Phase) (d : DeviceState) → phase ≢ Lost → reset_at phase d ≡ record d { regs = reset_regs; slot = InDevice (zeros 3968) }
 reset-working Idle d working = refl
 reset-working Ready d working = refl
 reset-working Reception d working = refl
@@ -94,24 +94,24 @@ reset-working Completion d working = refl
 reset-working Lost d working = absurd (working refl)
 
 pub free_where : (slot : Slot) (number : ℕ) → reset_reply_at slot number ≡ Ok tt → slot ≢ ClaimedSlot
-free_where (Home bytes) number is claimed = cc
+free_where (InDevice bytes) number is claimed = cc
 free_where (Queued j) number is claimed = cc
 free_where ClaimedSlot number is claimed = cc
 free_where (Answered a) number is claimed = cc
 
 pub claimed_where : (slot : Slot) (number : ℕ) (not_yet : NotYet) → reset_reply_at slot number ≡ Err not_yet → slot ≡ ClaimedSlot
-claimed_where (Home bytes) number not_yet is = cc
+claimed_where (InDevice bytes) number not_yet is = cc
 claimed_where (Queued j) number not_yet is = cc
 claimed_where ClaimedSlot number not_yet is = refl
 claimed_where (Answered a) number not_yet is = cc
 
 after_reset-free : (slot : Slot) (d : DeviceState) → slot ≢ ClaimedSlot → after_reset_at slot d ≡ reset_at (collected d).regs.phase (collected d)
-after_reset-free (Home bytes) d free = refl
+after_reset-free (InDevice bytes) d free = refl
 after_reset-free (Queued j) d free = refl
 after_reset-free ClaimedSlot d free = absurd (free refl)
 after_reset-free (Answered a) d free = refl
 
--- the phase of a device after its reset tells whether it was lost
+-- the phase of a device after its reset says whether it was lost
 by_phase : (d : DeviceState) (phase : Phase) → d.regs.phase ≡ phase → (reset_at phase d).regs.phase ≡ Lost → (d.regs.phase ≡ Lost) × (reset_at phase d ≡ d)
 by_phase d Idle is lost = cc
 by_phase d Ready is lost = cc
@@ -135,11 +135,11 @@ not_lost Completion working = refl
 not_lost Lost working = absurd (working refl)
 
 -- the device of a reset that is done
-record IsDone (b : Base) (p : History) (d e : DeviceState) (progress : Progress) : Type 0 where
+record IsDone (b : Snapshot) (p : History) (d e : DeviceState) (progress : Progress) : Type 0 where
   rest : IsAtRest b p progress
   device : e ≡ reset_of (collected d)
 
-done_where : (b : Base) (p : History) (d e : DeviceState) (progress : Progress) → Placed b p (collected d).slot progress → e ≡ after_reset d → reset_reply d ≡ Ok tt → IsDone b p d e progress
+done_where : (b : Snapshot) (p : History) (d e : DeviceState) (progress : Progress) → Placed b p (collected d).slot progress → e ≡ after_reset d → reset_reply d ≡ Ok tt → IsDone b p d e progress
 done_where b p d e progress placed is done =
     let free : d.slot ≢ ClaimedSlot = free_where d.slot d.number done in
     record {
@@ -149,15 +149,15 @@ done_where b p d e progress placed is done =
 
 -- ---- the lines that change nothing
 
-pub stands_collected : (b : Base) (p : History) (d : DeviceState) (progress : Progress) (l : Link) → Stands b p d progress l → Stands b p (collected d) progress l
+pub stands_collected : (b : Snapshot) (p : History) (d : DeviceState) (progress : Progress) (l : Link) → RefinesAt b p d progress l → RefinesAt b p (collected d) progress l
 stands_collected b p d progress l s = record { device = rw (collected-collected d) s.device; job = rw (collected-collected d) s.job; quiet = s.quiet; link = s.link }
 
 -- the device is lost
-pub lost_device-steps : (b : Base) (t : OneHost) (d e : DeviceModel Standing) (progress : Progress) (l : Link) (due : Option ℕ)
-    → FollowsIn b t (record { device = d; progress = progress; link = l; due = due; faults = 0 })
+pub lost_device-steps : (b : Snapshot) (t : OneHost) (d e : DeviceModel PortState) (progress : Progress) (l : Link) (calls_to_fault : Option ℕ)
+    → RefinesOneHost b t (record { device = d; progress = progress; link = l; calls_to_fault = calls_to_fault; faults = 0 })
     → plain_device e ≡ after_reset (plain_device d) → reset_reply (plain_device d) ≡ Ok tt → e.regs.phase ≡ Lost
-    → StepsIn b t ResetLine replied.FailedDevice (record { device = e; progress = progress; link = l; due = due; faults = 0 })
-lost_device-steps b t d e progress l due follows is done lost =
+    → StepRefinesOneHost b t ResetLine replied.FailedDevice (record { device = e; progress = progress; link = l; calls_to_fault = calls_to_fault; faults = 0 })
+lost_device-steps b t d e progress l calls_to_fault follows is done lost =
     let p : History = t.history in
     let s = follows.stands in
     let here : IsDone b p (plain_device d) (plain_device e) progress = done_where b p (plain_device d) (plain_device e) progress s.job is done in
@@ -168,30 +168,30 @@ lost_device-steps b t d e progress l due follows is done lost =
       legal = λ legal. legal;
       follows = record {
         fit = follows.fit;
-        stands = subst (λ (x : DeviceState). Stands b p x progress l) (sym (here.device ∙ was.1)) (stands_collected b p (plain_device d) progress l s);
-        due = due-same t.order t.count due follows.due;
+        stands = subst (λ (x : DeviceState). RefinesAt b p x progress l) (sym (here.device ∙ was.1)) (stands_collected b p (plain_device d) progress l s);
+        calls_to_fault = due-same t.injected_fault t.count calls_to_fault follows.calls_to_fault;
       };
     }
 
 -- ---- the emulator is powered on anew
 
 -- INIT starts the TPM that is there
-pub started : (t : TpmParts) (d : Desk) (turn : Turn) → IsDesk d t None → Obeys (Init 0) [] d turn → turn ≡ resulted SUCCESS (switched_on (powered_on t) d)
-started t d turn is obeys =
-    let here : StartsBy true 0 d turn = subst (λ (g : Gathers). StartsBy (is_nothing_gathered g) 0 d turn) is.gathers obeys in
+pub started : (t : TpmParts) (d : EmulatorState) (request_outcome : RequestOutcome) → IsEmulator d t None → HandlesRequest (Init 0) [] d request_outcome → request_outcome ≡ resulted SUCCESS (switched_on (powered_on t) d)
+started t d request_outcome is obeys =
+    let here : StartsBy true 0 d request_outcome = subst (λ (g : Gathers). StartsBy (is_nothing_gathered g) 0 d request_outcome) is.gathers obeys in
     here ∙ ap (λ (x : Option TpmParts). started_here 0 x d) is.tpm ∙ ap (λ (kept : Bool). resulted SUCCESS (switched_on (cond (kept && true) t (powered_on t)) d)) is.stored
 
-powered : (b : Base) (p : History) → IsFit b.tpm → powered_on (tpm_at b p) ≡ tpm_at b (Resetting ∷ p)
+powered : (b : Snapshot) (p : History) → IsValid b.tpm → powered_on (tpm_at b p) ≡ tpm_at b (Resetting ∷ p)
 powered b p fit = sym (values_after-power_on (tpm_at b p) (fit-past b.tpm (executed b p) fit)) ∙ sym (values_after-append b.tpm (PowerOn ∷ []) (executed b p) fit)
 
 -- what is known of a device that may be reset
-pub record IsReady (b : Base) (p : History) (d e : DeviceState) (progress : Progress) : Type 0 where
+pub record IsReady (b : Snapshot) (p : History) (d e : DeviceState) (progress : Progress) : Type 0 where
   rest : IsAtRest b p progress
   far : phase_of b p ≢ Lost
   lives : is_lost (phase_of b p) ≡ false
-  device : e ≡ record (collected d) { regs = reset_regs; slot = Home (zeros 3968) }
+  device : e ≡ record (collected d) { regs = reset_regs; slot = InDevice (zeros 3968) }
 
-pub ready_where : (b : Base) (p : History) (d e : DeviceState) (progress : Progress) (l : Link) → Stands b p d progress l → e ≡ after_reset d → reset_reply d ≡ Ok tt → e.regs.phase ≢ Lost → IsReady b p d e progress
+pub ready_where : (b : Snapshot) (p : History) (d e : DeviceState) (progress : Progress) (l : Link) → RefinesAt b p d progress l → e ≡ after_reset d → reset_reply d ≡ Ok tt → e.regs.phase ≢ Lost → IsReady b p d e progress
 ready_where b p d e progress l s is done working =
     let here : IsDone b p d e progress = done_where b p d e progress s.job is done in
     let phase : (collected d).regs.phase ≡ phase_of b p = ap (λ (r : Regs). r.phase) s.device.regs in
@@ -205,27 +205,27 @@ ready_where b p d e progress l s is done working =
     }
 
 -- the world after a reset
-restarted : (b : Base) (p : History) (d e : DeviceState) (progress : Progress) (l : Link) (desk : Desk) → IsFit b.tpm → Stands b p d progress l → IsReady b p d e progress → desk ≡ switched_on (powered_on (tpm_at b p)) l.desk → Stands b (Resetting ∷ p) e progress (record l { desk = desk })
-restarted b p d e progress l desk fit s ready is =
-    let rests : Rests (tpm_at b p) l = to_rest (place_of b p) (asked_in_time b p) (tpm_at b p) (last_command b p) l ready.rest.place (s.link ready.lives) in
+restarted : (b : Snapshot) (p : History) (d e : DeviceState) (progress : Progress) (l : Link) (emulator : EmulatorState) → IsValid b.tpm → RefinesAt b p d progress l → IsReady b p d e progress → emulator ≡ switched_on (powered_on (tpm_at b p)) l.emulator → RefinesAt b (Resetting ∷ p) e progress (record l { emulator = emulator })
+restarted b p d e progress l emulator fit s ready is =
+    let rests : Rests (tpm_at b p) l = to_rest (place_of b p) (cancelled_in_emulator b p) (tpm_at b p) (last_command b p) l ready.rest.place (s.link ready.lives) in
     rw (ready.device, ready.rest.free) (record {
       device = record { regs = refl; number = s.device.number; bytes = λ far. record { size = length-zeros 3968; each = λ i lt. get_or-zeros 3968 i } };
       job = AtHome (zeros 3968) refl;
-      quiet = record { nothing = s.quiet.nothing; listens = ap (λ (x : Desk). x.closed) is ∙ s.quiet.listens };
-      link = λ far. from_rest None (asked_in_time b p) (tpm_at b (Resetting ∷ p)) (last_command b (Resetting ∷ p)) (record l { desk = desk }) refl (record {
-        desk = record {
-          tpm = ap (λ (x : Desk). x.tpm) is ∙ ap Some (powered b p fit);
-          on = ap (λ (x : Desk). x.on) is;
-          stored = ap (λ (x : Desk). x.stored) is;
-          gathers = ap (λ (x : Desk). x.gathers) is;
-          held_is = ap (λ (x : Desk). x.held) is ∙ rests.desk.held_is;
+      quiet = record { nothing = s.quiet.nothing; listens = ap (λ (x : EmulatorState). x.closed) is ∙ s.quiet.listens };
+      link = λ far. from_rest None (cancelled_in_emulator b p) (tpm_at b (Resetting ∷ p)) (last_command b (Resetting ∷ p)) (record l { emulator = emulator }) refl (record {
+        emulator = record {
+          tpm = ap (λ (x : EmulatorState). x.tpm) is ∙ ap Some (powered b p fit);
+          on = ap (λ (x : EmulatorState). x.on) is;
+          stored = ap (λ (x : EmulatorState). x.stored) is;
+          gathers = ap (λ (x : EmulatorState). x.gathers) is;
+          held_is = ap (λ (x : EmulatorState). x.held) is ∙ rests.emulator.held_is;
         };
-        lane = rests.lane;
+        channel = rests.channel;
       });
     })
 
 -- and where the device was given up
-given_up : (b : Base) (p : History) (d e : DeviceState) (progress : Progress) (l m : Link) → Stands b p d progress l → IsReady b p d e progress → IsQuiet m → Stands b (ResetLost ∷ p) (failed e) progress m
+given_up : (b : Snapshot) (p : History) (d e : DeviceState) (progress : Progress) (l m : Link) → RefinesAt b p d progress l → IsReady b p d e progress → IsQuiet m → RefinesAt b (ResetLost ∷ p) (failed e) progress m
 given_up b p d e progress l m s ready quiet =
     rw (ready.device, ready.rest.free) (record {
       device = record { regs = refl; number = s.device.number; bytes = λ far. absurd (wrong far) };
@@ -238,82 +238,82 @@ given_up b p d e progress l m s ready quiet =
     wrong is = cc
 
 -- the emulator before an INIT
-pub desk_before : (b : Base) (p : History) (d e : DeviceState) (progress : Progress) (l : Link) → Stands b p d progress l → IsReady b p d e progress → IsDesk l.desk (tpm_at b p) None
-desk_before b p d e progress l s ready = (to_rest (place_of b p) (asked_in_time b p) (tpm_at b p) (last_command b p) l ready.rest.place (s.link ready.lives)).desk
+pub emulator_before : (b : Snapshot) (p : History) (d e : DeviceState) (progress : Progress) (l : Link) → RefinesAt b p d progress l → IsReady b p d e progress → IsEmulator l.emulator (tpm_at b p) None
+emulator_before b p d e progress l s ready = (to_rest (place_of b p) (cancelled_in_emulator b p) (tpm_at b p) (last_command b p) l ready.rest.place (s.link ready.lives)).emulator
 
 -- a reset of the guest
-pub reset-steps : (b : Base) (t : OneHost) (d e : DeviceModel Standing) (progress : Progress) (l m : Link) (due due' : Option ℕ)
-    → FollowsIn b t (record { device = d; progress = progress; link = l; due = due; faults = 0 })
+pub reset-steps : (b : Snapshot) (t : OneHost) (d e : DeviceModel PortState) (progress : Progress) (l m : Link) (calls_to_fault calls_to_fault' : Option ℕ)
+    → RefinesOneHost b t (record { device = d; progress = progress; link = l; calls_to_fault = calls_to_fault; faults = 0 })
     → plain_device e ≡ after_reset (plain_device d) → reset_reply (plain_device d) ≡ Ok tt → e.regs.phase ≢ Lost
-    → Commands is_due passed (Init 0) [] l due (Ok tt) (Some m) due'
-    → StepsIn b t ResetLine replied.Reset (record { device = e; progress = progress; link = m; due = due'; faults = 0 })
-reset-steps b t d e progress l m due due' follows is done working told = go (fails_within is_due passed 1 due) (fails_within is_due passed 2 due) refl refl told.link
+    → Commands fails_next after_call (Init 0) [] l calls_to_fault (Ok tt) (Some m) calls_to_fault'
+    → StepRefinesOneHost b t ResetLine replied.Reset (record { device = e; progress = progress; link = m; calls_to_fault = calls_to_fault'; faults = 0 })
+reset-steps b t d e progress l m calls_to_fault calls_to_fault' follows is done working exact = go (fails_within fails_next after_call 1 calls_to_fault) (fails_within fails_next after_call 2 calls_to_fault) refl refl exact.link
   where
-    go : (first lost : Bool) → fails_within is_due passed 1 due ≡ first → fails_within is_due passed 2 due ≡ lost → CommandedBy first lost (Init 0) [] l (Ok tt) (Some m) → StepsIn b t ResetLine replied.Reset (record { device = e; progress = progress; link = m; due = due'; faults = 0 })
+    go : (first lost : Bool) → fails_within fails_next after_call 1 calls_to_fault ≡ first → fails_within fails_next after_call 2 calls_to_fault ≡ lost → CommandedBy first lost (Init 0) [] l (Ok tt) (Some m) → StepRefinesOneHost b t ResetLine replied.Reset (record { device = e; progress = progress; link = m; calls_to_fault = calls_to_fault'; faults = 0 })
     go true lost one two (answer, same) = cc
-    go false true one two (turn, obeys, same, answer) = cc
-    go false false one two (turn, obeys, same, answer) =
+    go false true one two (request_outcome, obeys, same, answer) = cc
+    go false false one two (request_outcome, obeys, same, answer) =
         let p : History = t.history in
         let ready : IsReady b p (plain_device d) (plain_device e) progress = ready_where b p (plain_device d) (plain_device e) progress l follows.stands is done working in
-        let now = started (tpm_at b p) l.desk turn (desk_before b p (plain_device d) (plain_device e) progress l follows.stands ready) obeys in
-        let unmet : fails_in t 2 ≡ false = sym (fails-reaches t.order t.count due 2 (omega arith) follows.due) ∙ two in
+        let now = started (tpm_at b p) l.emulator request_outcome (emulator_before b p (plain_device d) (plain_device e) progress l follows.stands ready) obeys in
+        let unmet : fails_in t 2 ≡ false = sym (fails-reaches t.injected_fault t.count calls_to_fault 2 (omega arith) follows.calls_to_fault) ∙ two in
         record {
           answers = rw (ready.lives, ready.rest.early, unmet) refl;
           legal = λ legal. (legal, record { working = ready.far; unclaimed = ready.rest.unclaimed });
           follows = record {
             fit = follows.fit;
-            stands = subst (λ (x : Link). Stands b (Resetting ∷ p) (plain_device e) progress x) (sym (the_same m (record l { desk = turn.desk }) same)) (restarted b p (plain_device d) (plain_device e) progress l turn.desk follows.fit follows.stands ready (ap (λ (x : Turn). x.desk) now));
-            due = subst (λ (o : Option ℕ). IsDue t.order (t.count + 2) o) (sym told.plan_is) (due-passed t.order t.count due 2 two follows.due);
+            stands = subst (λ (x : Link). RefinesAt b (Resetting ∷ p) (plain_device e) progress x) (sym (the_same m (record l { emulator = request_outcome.emulator }) same)) (restarted b p (plain_device d) (plain_device e) progress l request_outcome.emulator follows.fit follows.stands ready (ap (λ (x : RequestOutcome). x.emulator) now));
+            calls_to_fault = subst (λ (o : Option ℕ). IsInjected t.injected_fault (t.count + 2) o) (sym exact.schedule_is) (due-passed t.injected_fault t.count calls_to_fault 2 two follows.calls_to_fault);
           };
         }
 
 -- one whose INIT failed
-pub reset_lost-steps : (b : Base) (t : OneHost) (d e f : DeviceModel Standing) (progress : Progress) (l m : Link) (due due' : Option ℕ) (fault : ClientFault)
-    → FollowsIn b t (record { device = d; progress = progress; link = l; due = due; faults = 0 })
+pub reset_lost-steps : (b : Snapshot) (t : OneHost) (d e f : DeviceModel PortState) (progress : Progress) (l m : Link) (calls_to_fault calls_to_fault' : Option ℕ) (fault : ClientFault)
+    → RefinesOneHost b t (record { device = d; progress = progress; link = l; calls_to_fault = calls_to_fault; faults = 0 })
     → plain_device e ≡ after_reset (plain_device d) → reset_reply (plain_device d) ≡ Ok tt → e.regs.phase ≢ Lost
     → plain_device f ≡ failed (plain_device e)
-    → Commands is_due passed (Init 0) [] l due (Err fault) (Some m) due'
-    → StepsIn b t ResetLine replied.Link (record { device = f; progress = progress; link = m; due = due'; faults = 0 })
-reset_lost-steps b t d e f progress l m due due' fault follows is done working given told = go (fails_within is_due passed 1 due) (fails_within is_due passed 2 due) refl refl told.link
+    → Commands fails_next after_call (Init 0) [] l calls_to_fault (Err fault) (Some m) calls_to_fault'
+    → StepRefinesOneHost b t ResetLine replied.Link (record { device = f; progress = progress; link = m; calls_to_fault = calls_to_fault'; faults = 0 })
+reset_lost-steps b t d e f progress l m calls_to_fault calls_to_fault' fault follows is done working given exact = go (fails_within fails_next after_call 1 calls_to_fault) (fails_within fails_next after_call 2 calls_to_fault) refl refl exact.link
   where
-    lost_now : fails_within is_due passed 2 due ≡ true → IsQuiet m → StepsIn b t ResetLine replied.Link (record { device = f; progress = progress; link = m; due = due'; faults = 0 })
+    lost_now : fails_within fails_next after_call 2 calls_to_fault ≡ true → IsQuiet m → StepRefinesOneHost b t ResetLine replied.Link (record { device = f; progress = progress; link = m; calls_to_fault = calls_to_fault'; faults = 0 })
     lost_now two quiet =
         let p : History = t.history in
         let ready : IsReady b p (plain_device d) (plain_device e) progress = ready_where b p (plain_device d) (plain_device e) progress l follows.stands is done working in
-        let met : fails_in t 2 ≡ true = sym (fails-reaches t.order t.count due 2 (omega arith) follows.due) ∙ two in
+        let met : fails_in t 2 ≡ true = sym (fails-reaches t.injected_fault t.count calls_to_fault 2 (omega arith) follows.calls_to_fault) ∙ two in
         record {
           answers = rw (ready.lives, ready.rest.early, met) refl;
           legal = λ legal. (legal, record { working = ready.far; unclaimed = ready.rest.unclaimed });
           follows = record {
             fit = follows.fit;
-            stands = subst (λ (x : DeviceState). Stands b (ResetLost ∷ p) x progress m) (sym given) (given_up b p (plain_device d) (plain_device e) progress l m follows.stands ready quiet);
-            due = told.plan_is ∙ due-failed t.order t.count due 2 two follows.due;
+            stands = subst (λ (x : DeviceState). RefinesAt b (ResetLost ∷ p) x progress m) (sym given) (given_up b p (plain_device d) (plain_device e) progress l m follows.stands ready quiet);
+            calls_to_fault = exact.schedule_is ∙ due-failed t.injected_fault t.count calls_to_fault 2 two follows.calls_to_fault;
           };
         }
 
-    go : (first lost : Bool) → fails_within is_due passed 1 due ≡ first → fails_within is_due passed 2 due ≡ lost → CommandedBy first lost (Init 0) [] l (Err fault) (Some m) → StepsIn b t ResetLine replied.Link (record { device = f; progress = progress; link = m; due = due'; faults = 0 })
-    go true lost one two (answer, same) = lost_now (two-fail due one) (subst IsQuiet (sym (the_same m l same)) follows.stands.quiet)
-    go false true one two (turn, obeys, same, answer) =
+    go : (first lost : Bool) → fails_within fails_next after_call 1 calls_to_fault ≡ first → fails_within fails_next after_call 2 calls_to_fault ≡ lost → CommandedBy first lost (Init 0) [] l (Err fault) (Some m) → StepRefinesOneHost b t ResetLine replied.Link (record { device = f; progress = progress; link = m; calls_to_fault = calls_to_fault'; faults = 0 })
+    go true lost one two (answer, same) = lost_now (two-fail calls_to_fault one) (subst IsQuiet (sym (the_same m l same)) follows.stands.quiet)
+    go false true one two (request_outcome, obeys, same, answer) =
         let p : History = t.history in
         let ready : IsReady b p (plain_device d) (plain_device e) progress = ready_where b p (plain_device d) (plain_device e) progress l follows.stands is done working in
-        let now = started (tpm_at b p) l.desk turn (desk_before b p (plain_device d) (plain_device e) progress l follows.stands ready) obeys in
-        lost_now two (subst IsQuiet (sym (the_same m (record l { desk = turn.desk }) same)) (record { nothing = follows.stands.quiet.nothing; listens = ap (λ (x : Turn). x.desk.closed) now ∙ follows.stands.quiet.listens }))
-    go false false one two (turn, obeys, same, answer) =
+        let now = started (tpm_at b p) l.emulator request_outcome (emulator_before b p (plain_device d) (plain_device e) progress l follows.stands ready) obeys in
+        lost_now two (subst IsQuiet (sym (the_same m (record l { emulator = request_outcome.emulator }) same)) (record { nothing = follows.stands.quiet.nothing; listens = ap (λ (x : RequestOutcome). x.emulator.closed) now ∙ follows.stands.quiet.listens }))
+    go false false one two (request_outcome, obeys, same, answer) =
         let p : History = t.history in
         let ready : IsReady b p (plain_device d) (plain_device e) progress = ready_where b p (plain_device d) (plain_device e) progress l follows.stands is done working in
-        let now = started (tpm_at b p) l.desk turn (desk_before b p (plain_device d) (plain_device e) progress l follows.stands ready) obeys in
+        let now = started (tpm_at b p) l.emulator request_outcome (emulator_before b p (plain_device d) (plain_device e) progress l follows.stands ready) obeys in
         let wrong : Err fault ≡ Ok tt = rw now at answer in
         cc
 
 -- ---- the values of a device that the port shows
 
--- a buffer that is home is where the device has it
-home_held : (home : Option (List ℕ)) (s : Standing) (bytes : List ℕ) → slot_at home s ≡ Home bytes → is_some home ≡ true
+-- a buffer that is in the device is where the device has it
+home_held : (own_buffer : Option (List ℕ)) (s : PortState) (bytes : List ℕ) → slot_at own_buffer s ≡ InDevice bytes → is_some own_buffer ≡ true
 home_held (Some buf) s bytes is = refl
-home_held None standing.Nothing bytes is = cc
-home_held None (standing.Waiting job) bytes is = cc
-home_held None (standing.Claimed number) bytes is = cc
-home_held None (standing.Answered answer) bytes is = cc
+home_held None port_state.Nothing bytes is = cc
+home_held None (port_state.Waiting job) bytes is = cc
+home_held None (port_state.Claimed number) bytes is = cc
+home_held None (port_state.Answered answer) bytes is = cc
 
 -- a reset that isn't refused is done
 pub done_by : (r : Result (Unit {0}) NotYet) → is_err r ≡ false → r ≡ Ok tt
@@ -322,30 +322,30 @@ done_by (Err not_yet) none = cc
 
 -- ---- a new world
 
-fit-fresh : (seed : List ℕ) → length seed ≡ 32 → IsFit (powered_on (manufactured seed))
+fit-fresh : (seed : List ℕ) → length seed ≡ 32 → IsValid (powered_on (manufactured seed))
 fit-fresh seed whole =
-    let fit : IsFit (manufactured seed) = fit-manufactured seed whole in
-    subst IsFit (values_after-power_on (manufactured seed) fit) (fit-past (manufactured seed) (PowerOn ∷ []) fit)
+    let fit : IsValid (manufactured seed) = fit-manufactured seed whole in
+    subst IsValid (values_after-power_on (manufactured seed) fit) (fit-past (manufactured seed) (PowerOn ∷ []) fit)
 
 -- a device after a reset over an emulator that was switched on
-pub new-follows : (seed : List ℕ) (piece : ℕ) (d : DeviceModel Standing) (progress : Progress) (m : Link) (due' : Option ℕ) (answer : Result (Unit {0}) ClientFault)
+pub new-follows : (seed : List ℕ) (piece : ℕ) (d : DeviceModel PortState) (progress : Progress) (m : Link) (calls_to_fault' : Option ℕ) (answer : Result (Unit {0}) ClientFault)
     → length seed ≡ 32 → plain_device d ≡ fresh_state → progress ≡ Free
-    → Commands is_due passed (Init 0) [] (fresh_wires (Some (manufactured seed)) piece).link None answer (Some m) due'
-    → Follows (fresh seed) [] (record { device = d; progress = progress; link = m; due = due'; faults = 0 })
-new-follows seed piece d progress m due' answer whole is free told = go told.link
+    → Commands fails_next after_call (Init 0) [] (fresh_wires (Some (manufactured seed)) piece).link None answer (Some m) calls_to_fault'
+    → Refines (fresh seed) [] (record { device = d; progress = progress; link = m; calls_to_fault = calls_to_fault'; faults = 0 })
+new-follows seed piece d progress m calls_to_fault' answer whole is free exact = go exact.link
   where
-    go : CommandedBy false false (Init 0) [] (fresh_wires (Some (manufactured seed)) piece).link answer (Some m) → Follows (fresh seed) [] (record { device = d; progress = progress; link = m; due = due'; faults = 0 })
-    go (turn, obeys, same, answers) =
-        let fit : IsFit (powered_on (manufactured seed)) = fit-fresh seed whole in
-        let now : m ≡ record (fresh_wires (Some (manufactured seed)) piece).link { desk = turn.desk } = the_same m _ same in
-        let desk : turn.desk ≡ switched_on (powered_on (manufactured seed)) (fresh_wires (Some (manufactured seed)) piece).link.desk = ap (λ (x : Turn). x.desk) obeys in
+    go : CommandedBy false false (Init 0) [] (fresh_wires (Some (manufactured seed)) piece).link answer (Some m) → Refines (fresh seed) [] (record { device = d; progress = progress; link = m; calls_to_fault = calls_to_fault'; faults = 0 })
+    go (request_outcome, obeys, same, answers) =
+        let fit : IsValid (powered_on (manufactured seed)) = fit-fresh seed whole in
+        let now : m ≡ record (fresh_wires (Some (manufactured seed)) piece).link { emulator = request_outcome.emulator } = the_same m _ same in
+        let emulator : request_outcome.emulator ≡ switched_on (powered_on (manufactured seed)) (fresh_wires (Some (manufactured seed)) piece).link.emulator = ap (λ (x : RequestOutcome). x.emulator) obeys in
         record {
           fit = fit;
-          stands = rw (is, free, now, desk) (record {
+          stands = rw (is, free, now, emulator) (record {
             device = record { regs = refl; number = refl; bytes = λ far. record { size = length-zeros 3968; each = λ i lt. refl } };
             job = AtHome (zeros 3968) refl;
             quiet = record { nothing = refl; listens = refl };
-            link = λ far. record { desk = record { tpm = ap Some (sym (no_past (powered_on (manufactured seed)) fit)); on = refl; stored = refl; gathers = refl; held_is = refl }; lane = refl };
+            link = λ far. record { emulator = record { tpm = ap Some (sym (no_past (powered_on (manufactured seed)) fit)); on = refl; stored = refl; gathers = refl; held_is = refl }; channel = refl };
           });
-          due = told.plan_is;
+          calls_to_fault = exact.schedule_is;
         }

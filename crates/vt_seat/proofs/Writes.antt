@@ -7,26 +7,26 @@ use Rattle.crb_regs.specs.LittleEndian.{byte_of}
 use Rattle.crb_regs.specs.Access.{Access}
 use Rattle.crb_regs.specs.Registers.{is_executing, is_lost}
 use Rattle.crb_machine.specs.Phases.{next_phase, is_accepted}
-use Rattle.crb_history.specs.Base.{Base}
+use Rattle.crb_history.specs.Snapshot.{Snapshot}
 use Rattle.crb_history.specs.Event.{History}
 use Rattle.crb_history.specs.Event.Event.{Write}
 use Rattle.crb_history.specs.Device.{written_value, effect_of, phase_of, is_granted, is_cancel, number_of, buffer, started, latest_number, stage_of, accepts, starts, Start as StartOf}
-use Rattle.crb_history.specs.Device.Stage.{Waiting}
+use Rattle.crb_history.specs.Device.JobStage.{Waiting}
 use Rattle.crb_regs.specs.declared.registers.Regs.{Regs}
 use Rattle.crb_regs.specs.declared.phase.Phase.{Phase}
 use Rattle.crb_regs.specs.declared.phase.Phase.TheVariants.{Idle, Ready, Reception, Execution, Completion, Lost}
 use Rattle.crb_regs.specs.declared.effect.Effect.{Effect}
 use Rattle.crb_regs.specs.declared.effect.Effect.TheVariants.{Buffer, CmdReady, GoIdle, Start, Cancel, Request, Relinquish, Nothing}
-use Rattle.crb_machine.specs.State.{DeviceState, Slot, is_home}
+use Rattle.crb_machine.specs.State.{DeviceState, Slot, is_in_device}
 use Rattle.crb_machine.specs.Content.{slot_after}
 use Rattle.crb_machine.specs.Steps.{written, written_to, number_after, is_start}
 use Rattle.crb_port.specs.declared.job.Job.{Job}
 use Rattle.crb_port.specs.declared.job.Answer.{Answer}
-use Rattle.crb_history.specs.Asked.{held_back, sets_cancel, is_waiting}
-use Rattle.crb_machine.specs.State.Slot.{Home, Queued, Claimed as ClaimedSlot, Answered}
+use Rattle.crb_history.specs.Cancelling.{cancelled_before_claim, sets_cancel, is_waiting}
+use Rattle.crb_machine.specs.State.Slot.{InDevice, Queued, Claimed as ClaimedSlot, Answered}
 use Rattle.crb_worker.specs.declared.progress.Progress.{Progress}
 use Rattle.crb_worker.specs.declared.progress.Progress.TheVariants.{Free}
-use Rattle.ctrl_client.specs.Link.{Link}
+use Rattle.ctrl_model.specs.Link.{Link}
 use Rattle.vt_seat.specs.Follows.{HoldsBytes, HoldsBuffer, IsDeviceAfter, IsLastJob, Placed, place_of, tpm_at, IsLinkAfter}
 use Rattle.vt_seat.specs.Follows.Placed.{AtHome, InQueue, InHand, OnWay, Ran}
 use Rattle.vt_seat.proofs.Jobs.{SameCommand, Placed-same, HoldsBuffer-same, link-same, is_resting, to_rest, from_rest}
@@ -40,7 +40,7 @@ byte_there : (offset size i : ℕ) (byte : ℕ → ℕ) (after was held : ℕ) �
 byte_there offset size i byte after was held from here same place = grind (arith, nat_tests, here, same, place)
 
 -- an accepted write leaves in the buffer what the history says
-holds-slot_after : (b : Base) (p : History) (e : Effect) (a : Access) (cancel : Bool) (number : ℕ) (bytes : List ℕ) → HoldsBytes b p bytes → a.offset + a.size ≤ 0x1000 → effect_of a ≡ e → is_accepted e (is_granted b p) (phase_of b p) ≡ true → HoldsBuffer b (Write a ∷ p) (slot_after e a cancel number (Home bytes))
+holds-slot_after : (b : Snapshot) (p : History) (e : Effect) (a : Access) (cancel : Bool) (number : ℕ) (bytes : List ℕ) → HoldsBytes b p bytes → a.offset + a.size ≤ 0x1000 → effect_of a ≡ e → is_accepted e (is_granted b p) (phase_of b p) ≡ true → HoldsBuffer b (Write a ∷ p) (slot_after e a cancel number (InDevice bytes))
 holds-slot_after b p Buffer a cancel number bytes holds fits is accepted =
     let from : 0x80 ≤ a.offset = effect-Buffer a.offset a.size (written_value a) is in
     record {
@@ -85,7 +85,7 @@ slot_after-away e a cancel number slot (inr (answer, is)) = rw is (answered e)
     answered Nothing = refl
 
 -- a job that waits goes on waiting, with its buffer
-queued_holds : (b : Base) (q : History) (e : Effect) (a : Access) (cancel : Bool) (number : ℕ) (job : Job) → HoldsBytes b q job.buf → HoldsBuffer b q (slot_after e a cancel number (Queued job))
+queued_holds : (b : Snapshot) (q : History) (e : Effect) (a : Access) (cancel : Bool) (number : ℕ) (job : Job) → HoldsBytes b q job.buf → HoldsBuffer b q (slot_after e a cancel number (Queued job))
 queued_holds b q Buffer a cancel number job holds = holds
 queued_holds b q CmdReady a cancel number job holds = holds
 queued_holds b q GoIdle a cancel number job holds = holds
@@ -96,7 +96,7 @@ queued_holds b q Relinquish a cancel number job holds = holds
 queued_holds b q Nothing a cancel number job holds = holds
 
 -- the number of the last command after a write
-number_of-write : (b : Base) (p : History) (a : Access) → number_of b (Write a ∷ p) ≡ (if starts b p a then (number_of b p + 1) % 2 ^ 64 else number_of b p)
+number_of-write : (b : Snapshot) (p : History) (a : Access) → number_of b (Write a ∷ p) ≡ (if starts b p a then (number_of b p + 1) % 2 ^ 64 else number_of b p)
 number_of-write b p a = go (starts b p a) _
   where
     go : (begins : Bool) (start : StartOf) → latest_number b.device.number (if begins then start ∷ started b p else started b p) ≡ (if begins then start.number else number_of b p)
@@ -112,8 +112,8 @@ not_counted true more same = refl
 not_counted false more same = refl
 
 -- the buffer after an accepted write, wherever it is
-holds-accepted : (b : Base) (p : History) (a : Access) (cancel : Bool) (number : ℕ) (slot : Slot) → HoldsBuffer b p slot → (is_home slot ≡ false → phase_of b p ≡ Execution) → a.offset + a.size ≤ 0x1000 → accepts b p a ≡ true → HoldsBuffer b (Write a ∷ p) (slot_after (effect_of a) a cancel number slot)
-holds-accepted b p a cancel number (Home bytes) holds away fits accepted = holds-slot_after b p (effect_of a) a cancel number bytes holds fits refl accepted
+holds-accepted : (b : Snapshot) (p : History) (a : Access) (cancel : Bool) (number : ℕ) (slot : Slot) → HoldsBuffer b p slot → (is_in_device slot ≡ false → phase_of b p ≡ Execution) → a.offset + a.size ≤ 0x1000 → accepts b p a ≡ true → HoldsBuffer b (Write a ∷ p) (slot_after (effect_of a) a cancel number slot)
+holds-accepted b p a cancel number (InDevice bytes) holds away fits accepted = holds-slot_after b p (effect_of a) a cancel number bytes holds fits refl accepted
 holds-accepted b p a cancel number (Queued job) holds away fits accepted =
     queued_holds b (Write a ∷ p) (effect_of a) a cancel number job
     (record { size = holds.size; each = λ i lt. holds.each i lt ∙ sym (rw (away refl) (byte_while_executing (effect_of a) (is_granted b p) a i (buffer b p i))) })
@@ -121,7 +121,7 @@ holds-accepted b p a cancel number ClaimedSlot holds away fits accepted = rw (sl
 holds-accepted b p a cancel number (Answered answer) holds away fits accepted = rw (slot_after-away (effect_of a) a cancel number (Answered answer) (inr (answer, refl))) tt
 
 -- an accepted write leads the device on
-device-accepted : (b : Base) (p : History) (d : DeviceState) (a : Access) (phase : Phase) → IsDeviceAfter b p d → (is_home d.slot ≡ false → phase_of b p ≡ Execution) → a.offset + a.size ≤ 0x1000 → next_phase (effect_of a) (is_granted b p) (phase_of b p) ≡ Some phase → IsDeviceAfter b (Write a ∷ p) (written_to (Some phase) (effect_of a) a d)
+device-accepted : (b : Snapshot) (p : History) (d : DeviceState) (a : Access) (phase : Phase) → IsDeviceAfter b p d → (is_in_device d.slot ≡ false → phase_of b p ≡ Execution) → a.offset + a.size ≤ 0x1000 → next_phase (effect_of a) (is_granted b p) (phase_of b p) ≡ Some phase → IsDeviceAfter b (Write a ∷ p) (written_to (Some phase) (effect_of a) a d)
 device-accepted b p d a phase is away fits next = record {
   regs = rw (next, is.regs) refl;
   number = rw (number_of-write b p a, next, is.number) (counted (is_start (effect_of a)) ((number_of b p + 1) % 2 ^ 64) (number_of b p));
@@ -129,7 +129,7 @@ device-accepted b p d a phase is away fits next = record {
 }
 
 -- a write that isn't accepted changes nothing
-device-refused : (b : Base) (p : History) (d : DeviceState) (a : Access) → IsDeviceAfter b p d → next_phase (effect_of a) (is_granted b p) (phase_of b p) ≡ None → IsDeviceAfter b (Write a ∷ p) d
+device-refused : (b : Snapshot) (p : History) (d : DeviceState) (a : Access) → IsDeviceAfter b p d → next_phase (effect_of a) (is_granted b p) (phase_of b p) ≡ None → IsDeviceAfter b (Write a ∷ p) d
 device-refused b p d a is next = record {
   regs = rw next is.regs;
   number = rw (number_of-write b p a, next, is.number) (not_counted (is_start (effect_of a)) ((number_of b p + 1) % 2 ^ 64) (number_of b p));
@@ -137,7 +137,7 @@ device-refused b p d a is next = record {
 }
 
 -- a write leads the device on
-pub device-written : (b : Base) (p : History) (d : DeviceState) (a : Access) → IsDeviceAfter b p d → (is_home d.slot ≡ false → phase_of b p ≡ Execution) → a.offset + a.size ≤ 0x1000 → IsDeviceAfter b (Write a ∷ p) (written d a)
+pub device-written : (b : Snapshot) (p : History) (d : DeviceState) (a : Access) → IsDeviceAfter b p d → (is_in_device d.slot ≡ false → phase_of b p ≡ Execution) → a.offset + a.size ≤ 0x1000 → IsDeviceAfter b (Write a ∷ p) (written d a)
 device-written b p d a is away fits = go (next_phase (effect_of a) d.regs.granted d.regs.phase) (rw is.regs refl)
   where
     go : (after : Option Phase) → next_phase (effect_of a) (is_granted b p) (phase_of b p) ≡ after → IsDeviceAfter b (Write a ∷ p) (written_to after (effect_of a) a d)
@@ -164,11 +164,11 @@ accepted-lives e granted Lost is = go e granted is
     go Relinquish g h = cc
     go Nothing g h = cc
 
-abbrev HoldsBytesIfShown : Base → History → List ℕ → Type 0
+abbrev HoldsBytesIfShown : Snapshot → History → List ℕ → Type 0
 HoldsBytesIfShown b p bytes = is_lost (phase_of b p) ≡ false → HoldsBytes b p bytes
 
--- a job begins, or the buffer stays at home
-job-home : (b : Base) (p : History) (e : Effect) (a : Access) (cancel : Bool) (number : ℕ) (bytes : List ℕ) → HoldsBytes b p bytes → is_executing (phase_of b p) ≡ false → effect_of a ≡ e → is_accepted e (is_granted b p) (phase_of b p) ≡ true → number ≡ number_of b (Write a ∷ p) → cancel ≡ is_cancel b p → Placed b (Write a ∷ p) (slot_after e a cancel number (Home bytes)) Free
+-- a job begins, or the buffer stays in the device
+job-home : (b : Snapshot) (p : History) (e : Effect) (a : Access) (cancel : Bool) (number : ℕ) (bytes : List ℕ) → HoldsBytes b p bytes → is_executing (phase_of b p) ≡ false → effect_of a ≡ e → is_accepted e (is_granted b p) (phase_of b p) ≡ true → number ≡ number_of b (Write a ∷ p) → cancel ≡ is_cancel b p → Placed b (Write a ∷ p) (slot_after e a cancel number (InDevice bytes)) Free
 job-home b p Start a cancel number bytes holds still is accepted count kept = InQueue _ (record {
   number = count;
   size = holds.size;
@@ -193,13 +193,13 @@ or_false true = refl
 or_false false = refl
 
 -- while a claimed command is executed a write leaves it alone
-same_command : (b : Base) (p : History) (a : Access) → phase_of b p ≡ Execution → is_waiting (stage_of b p) ≡ false → SameCommand b p (Write a ∷ p)
+same_command : (b : Snapshot) (p : History) (a : Access) → phase_of b p ≡ Execution → is_waiting (stage_of b p) ≡ false → SameCommand b p (Write a ∷ p)
 same_command b p a executing claimed = record {
   phase = rw executing (phase_after-Execution (effect_of a) (is_granted b p));
   stage = rw (executing, no_start-Execution (effect_of a) (is_granted b p)) refl;
   number = rw (executing, no_start-Execution (effect_of a) (is_granted b p)) refl;
   command = rw (executing, no_start-Execution (effect_of a) (is_granted b p)) refl;
-  held = rw (executing, no_start-Execution (effect_of a) (is_granted b p), claimed, and_false (sets_cancel (effect_of a) && is_accepted (effect_of a) (is_granted b p) Execution)) (or_false (held_back b p));
+  held = rw (executing, no_start-Execution (effect_of a) (is_granted b p), claimed, and_false (sets_cancel (effect_of a) && is_accepted (effect_of a) (is_granted b p) Execution)) (or_false (cancelled_before_claim b p));
   in_time = rw (executing, no_start-Execution (effect_of a) (is_granted b p)) refl;
   executed_is = refl;
 }
@@ -233,7 +233,7 @@ slot_written : (after : Option Phase) (a : Access) (d : DeviceState) → (writte
 slot_written None a d = refl
 slot_written (Some phase) a d = refl
 
-job-waiting : (b : Base) (p : History) (a : Access) (job : Job) → IsLastJob b p Waiting job → IsLastJob b (Write a ∷ p) Waiting (record job { cancelled = job.cancelled || (sets_cancel (effect_of a) && is_accepted (effect_of a) (is_granted b p) Execution) })
+job-waiting : (b : Snapshot) (p : History) (a : Access) (job : Job) → IsLastJob b p Waiting job → IsLastJob b (Write a ∷ p) Waiting (record job { cancelled = job.cancelled || (sets_cancel (effect_of a) && is_accepted (effect_of a) (is_granted b p) Execution) })
 job-waiting b p a job is = record {
   number = rw (is.at.executing, no_start-Execution (effect_of a) (is_granted b p)) is.number;
   size = is.size;
@@ -250,13 +250,13 @@ slot-away None a d away = refl
 slot-away (Some phase) a d away = slot_after-away (effect_of a) a d.regs.cancel (number_after (effect_of a) d.number) d.slot away
 
 -- a write leads the last command on
-pub job-written : (b : Base) (p : History) (d : DeviceState) (a : Access) (progress : Progress) → IsDeviceAfter b p d → IsDeviceAfter b (Write a ∷ p) (written d a) → Placed b p d.slot progress → Placed b (Write a ∷ p) (written d a).slot progress
+pub job-written : (b : Snapshot) (p : History) (d : DeviceState) (a : Access) (progress : Progress) → IsDeviceAfter b p d → IsDeviceAfter b (Write a ∷ p) (written d a) → Placed b p d.slot progress → Placed b (Write a ∷ p) (written d a).slot progress
 job-written b p d a progress is after job = by_slot d.slot refl progress job
   where
     claimed_stays : d.slot ≡ ClaimedSlot → (x : Progress) → Placed b p ClaimedSlot x → phase_of b p ≡ Execution → is_waiting (stage_of b p) ≡ false → Placed b (Write a ∷ p) (written d a).slot x
     claimed_stays here x h executing claimed = rw (slot-away (next_phase (effect_of a) d.regs.granted d.regs.phase) a d (inl here), here) (Placed-same b p (Write a ∷ p) (same_command b p a executing claimed) ClaimedSlot x h)
 
-    at_home : (bytes : List ℕ) (next : Option Phase) → next_phase (effect_of a) (is_granted b p) (phase_of b p) ≡ next → d.slot ≡ Home bytes → is_executing (phase_of b p) ≡ false → (written_to next (effect_of a) a d).number ≡ number_of b (Write a ∷ p) → HoldsBytesIfShown b p bytes → Placed b (Write a ∷ p) (written_to next (effect_of a) a d).slot Free
+    at_home : (bytes : List ℕ) (next : Option Phase) → next_phase (effect_of a) (is_granted b p) (phase_of b p) ≡ next → d.slot ≡ InDevice bytes → is_executing (phase_of b p) ≡ false → (written_to next (effect_of a) a d).number ≡ number_of b (Write a ∷ p) → HoldsBytesIfShown b p bytes → Placed b (Write a ∷ p) (written_to next (effect_of a) a d).slot Free
     at_home bytes None next here still count holds = rw here (AtHome bytes (rw next still))
     at_home bytes (Some phase) next here still count holds = rw here (job-home b p (effect_of a) a d.regs.cancel (number_after (effect_of a) d.number) bytes (holds (accepted-lives (effect_of a) (is_granted b p) (phase_of b p) (ap is_some next))) still refl (ap is_some next) count (ap (λ (r : Regs). r.cancel) is.regs))
 
@@ -272,7 +272,7 @@ job-written b p d a progress is after job = by_slot d.slot refl progress job
     by_slot slot here x (Ran j head h) = claimed_stays here x (Ran j head h) h.last.at.executing (rw h.last.at.reached refl)
 
 -- where the worker has sent nothing, what is behind the link rests
-pub rests_at : (b : Base) (p : History) (slot : Slot) (progress : Progress) → Placed b p slot progress → progress ≡ Free → is_resting (place_of b p) ≡ true
+pub rests_at : (b : Snapshot) (p : History) (slot : Slot) (progress : Progress) → Placed b p slot progress → progress ≡ Free → is_resting (place_of b p) ≡ true
 rests_at b p slot progress (AtHome bytes still) free = rw still refl
 rests_at b p slot progress (InQueue job is) free = rw (is.at.executing, is.at.reached) refl
 rests_at b p slot progress (InHand job is) free = cc
@@ -280,7 +280,7 @@ rests_at b p slot progress (OnWay job is) free = cc
 rests_at b p slot progress (Ran job head is) free = cc
 
 -- a write leaves what is behind the link
-pub link-written : (b : Base) (p : History) (a : Access) (slot after : Slot) (progress : Progress) (l : Link) → Placed b p slot progress → Placed b (Write a ∷ p) after progress → IsLinkAfter b p l → IsLinkAfter b (Write a ∷ p) l
+pub link-written : (b : Snapshot) (p : History) (a : Access) (slot after : Slot) (progress : Progress) (l : Link) → Placed b p slot progress → Placed b (Write a ∷ p) after progress → IsLinkAfter b p l → IsLinkAfter b (Write a ∷ p) l
 link-written b p a slot after progress l job next is = go slot progress job next
   where
     free : (new : Slot) (x : Progress) → x ≡ Free → is_resting (place_of b p) ≡ true → Placed b (Write a ∷ p) new x → IsLinkAfter b (Write a ∷ p) l

@@ -15,10 +15,10 @@ use std::alloc::{AllocError, Global};
 impl<P: Port> Seat<P> {
     /// Offers its guest to the other host; see [`move_core::Host::offer`].
     pub fn offer(&mut self) -> Result<Message, OfferFault>
-        ensures offers { Offers P.known self.old.host (view_of self.old) result (view_of self.new) self.new.host }
+        ensures offers { Offers P.port_view self.old.host (view_of self.old) result (view_of self.new) self.new.host }
         ensures counts { CountsIf (offered_by_link result) self.old.faults self.new.faults }
         ensures progress { self.new.progress ≡ self.old.progress }
-        ensures consistent { IsConsistentHost P.known self.old.host }
+        ensures consistent { IsConsistentHost P.port_view self.old.host }
     {
         let _side = self.host.side();
         self.host.offer(&mut self.wires)
@@ -27,10 +27,10 @@ impl<P: Port> Seat<P> {
     /// Takes a message of the other host; see [`move_core::Host::deliver`]. A Piece needs at least one byte.
     pub fn deliver(&mut self, alloc: Global, m: &Message) -> Result<Delivered, AllocError>
         requires bytes { HasBytes m.now.body }
-        ensures row { IfOk result (λ answer. Follows P.known (delivered self.old.host m.now) (view_of self.old) (view_of self.new) answer self.new.host) }
+        ensures row { IfOk result (λ answer. Follows P.port_view (delivered self.old.host m.now) (view_of self.old) (view_of self.new) answer self.new.host) }
         ensures counts { IfOk result (λ answer. CountsIf (delivered_by_link answer) self.old.faults self.new.faults) }
         ensures progress { self.new.progress ≡ self.old.progress }
-        ensures consistent { IsConsistentHost P.known self.old.host }
+        ensures consistent { IsConsistentHost P.port_view self.old.host }
         ensures need { OnErr result (IsNeed m.now.body) }
         ensures same { OnErr result (self.new ≡ self.old) }
     {
@@ -40,9 +40,9 @@ impl<P: Port> Seat<P> {
 
     /// Takes the offer back; see [`move_core::Host::give_up`].
     pub fn give_up(&mut self) -> Option<Message>
-        ensures gives_up { GivesUp P.known self.old.host result self.new.host }
+        ensures gives_up { GivesUp P.port_view self.old.host result self.new.host }
         ensures others { self.new ≡ record self.old { host = self.new.host } }
-        ensures consistent { IsConsistentHost P.known self.old.host }
+        ensures consistent { IsConsistentHost P.port_view self.old.host }
     {
         let _side = self.host.side();
         self.host.give_up()

@@ -2,12 +2,12 @@
 ghost use Rattle.std.specs.Prelude.{◌≡◌, ◌≤◌, ◌++◌, true, None, length, OnOk, OnErr, IfOk};
 ghost use Rattle.crb_machine.specs.Values.{DeviceValues};
 ghost use Rattle.tpm_core.specs.declared.parts.TpmParts.{TpmParts};
-ghost use Rattle.crb_history.specs.Base.{Base};
-ghost use Rattle.crb_history.specs.OneHost.{OneHost};
-ghost use Rattle.device_record.specs.Records.{record_text};
-ghost use Rattle.saved_stream.specs.Streams.{stream_text};
+ghost use Rattle.crb_history.specs.Snapshot.{Snapshot};
+ghost use Rattle.vt_transcript.specs.OneHost.{OneHost};
+ghost use Rattle.device_record.specs.Records.{encode_record};
+ghost use Rattle.saved_stream.specs.Streams.{encode_stream};
 ghost use Rattle.move_core.specs.Sides.{is_running};
-ghost use Rattle.vt_seat.specs.Follows.{FollowsIn};
+ghost use Rattle.vt_seat.specs.Follows.{RefinesOneHost};
 ghost use Rattle.vt_seat.specs.Seats.{world_of};
 ghost use Rattle.vt_seat.specs.Blobs.{IsReadable};
 ghost use Rattle.vt_seat.specs.Saving.{CanSave, Saves, Loads, IsLoaded};
@@ -18,14 +18,11 @@ use crate::wires::MemWires;
 use crb_machine::{Device, stopped_devices_go_on};
 use crb_port::PlainPort;
 use device_record::RECORD_ROOM;
-use move_codec::HostName;
 use move_core::{Host, OfferFault};
 use saved_stream::{read_stream, write_stream};
 use state_blobs::LARGEST_BLOB;
-use state_blobs::laws::blobs_are_told_apart;
 use std::alloc::{AllocError, Global};
-use tpm_core::laws::pasts_join;
-use vt_base::{Kind, Malformed};
+use vt_base::{HostName, Kind, Malformed};
 use vt_emulator::Emulator;
 
 /// What a save came to.
@@ -44,13 +41,13 @@ impl Seat<PlainPort> {
     /// No call on its wires may be ordered to fail, and its device may not be lost.
     pub fn save(&mut self, into: &mut Vec<u8>) -> Result<Saved, AllocError>
         requires runs { is_running self.old.host.stage ≡ true }
-        requires can { (b : Base) × (s : OneHost) × CanSave b s (world_of self.old) }
-        ensures saves { IfOk result (λ saved. (b : Base) (s : OneHost) → CanSave b s (world_of self.old) → Saves b s.history saved into.old.items into.new.items) }
-        ensures goes_on { (b : Base) (s : OneHost) → CanSave b s (world_of self.old) → FollowsIn b s (world_of self.new) }
+        requires can { (b : Snapshot) × (s : OneHost) × CanSave b s (world_of self.old) }
+        ensures saves { IfOk result (λ saved. (b : Snapshot) (s : OneHost) → CanSave b s (world_of self.old) → Saves b s.history saved into.old.items into.new.items) }
+        ensures goes_on { (b : Snapshot) (s : OneHost) → CanSave b s (world_of self.old) → RefinesOneHost b s (world_of self.new) }
         ensures others { self.new.host ≡ record self.old.host { device = self.new.host.device } }
         ensures err { OnErr result (into.new.items ≡ into.old.items) }
     {
-        pasts_join();
+        tpm_core::laws::pasts_join();
         stopped_devices_go_on::<PlainPort>();
         // The emulator gives its blobs in pieces of at least a byte.
         let has_tpm = self.wires.emulator().tpm().is_some();
@@ -68,9 +65,9 @@ impl Seat<PlainPort> {
         }
     }
 
-    /// The running host of this name that a saved stream spells, with a worker that has nothing in hand; or why and where the
-    /// bytes are no saved stream. Its emulator was given the blobs and then switched on; a piece of its record or of a blob
-    /// has at most `piece` bytes.
+    /// The running host of this name that a saved stream encodes, with a worker that has nothing in hand; or why and
+    /// where the bytes are no saved stream. Its emulator was given the blobs and then switched on; a piece of its
+    /// record or of a blob has at most `piece` bytes.
     pub fn load(
         alloc: Global,
         name: HostName,
@@ -105,13 +102,13 @@ impl Seat<PlainPort> {
 fn append(device: &[u8], wires: &mut MemWires, into: &mut Vec<u8>) -> Result<(), AllocError>
     requires readable { (t : TpmParts) × IsReadable wires.old t }
     requires short { length device.now ≤ 4096 }
-    ensures ok { OnOk result ((t : TpmParts) (v : DeviceValues) → IsReadable wires.old t → device.now ≡ record_text v
-        → into.new.items ≡ into.old.items ++ stream_text (record { tpm = t; device = v })) }
+    ensures ok { OnOk result ((t : TpmParts) (v : DeviceValues) → IsReadable wires.old t → device.now ≡ encode_record v
+        → into.new.items ≡ into.old.items ++ encode_stream (record { tpm = t; device = v })) }
     ensures err { OnErr result (into.new.items ≡ into.old.items) }
     ensures link { wires.new.link ≡ wires.old.link }
-    ensures due { wires.new.due ≡ None }
+    ensures calls_to_fault { wires.new.calls_to_fault ≡ None }
 {
-    blobs_are_told_apart();
+    state_blobs::laws::blobs_are_prefix_free();
     let mut permanent = [0; LARGEST_BLOB];
     let permanent_length = fetch(wires, Kind::Permanent, 0, &mut permanent);
     let mut volatile = [0; LARGEST_BLOB];

@@ -1,11 +1,11 @@
 //! One seat: a host with its worker and the wires to its emulator.
 ghost use Rattle.std.specs.Prelude.{◌≡◌, ◌≤◌, ◌-◌, [], true, Some, IfOk};
-ghost use Rattle.crb_history.specs.Base.{Base, fresh};
-ghost use Rattle.crb_history.specs.OneHost.{OneHost, IsOneHostLine};
+ghost use Rattle.crb_history.specs.Snapshot.{Snapshot, fresh};
+ghost use Rattle.vt_transcript.specs.OneHost.{OneHost, IsOneHostLine};
 ghost use Rattle.vt_script.specs.Replies.{IsPrintable};
 ghost use Rattle.move_core.specs.Sides.{is_running};
 ghost use Rattle.vt_seat.specs.Wires.{emulator_of};
-ghost use Rattle.vt_seat.specs.Follows.{Follows, FollowsIn, StepsIn, CountsFault, said};
+ghost use Rattle.vt_seat.specs.Follows.{Refines, RefinesOneHost, StepRefinesOneHost, CountsFault, said};
 ghost use Rattle.vt_seat.specs.Seats.{world_of, wires_of, new_seat, StartsAs, IsEmptySeat};
 
 use crate::wires::MemWires;
@@ -14,11 +14,11 @@ use crb_port::{PlainPort, Port};
 use crb_regs::{Access, Phase};
 use crb_worker::{Step, Worker};
 use ctrl_client::{cancel, init};
-use move_codec::HostName;
 use move_core::{Host, Side};
 use std::alloc::{AllocError, Global};
 use std::marker::Model;
 use tpm_core::SEED_SIZE;
+use vt_base::HostName;
 use vt_emulator::Emulator;
 use vt_script::{Event, Reply};
 
@@ -36,9 +36,9 @@ impl<P: Port> Model for Seat<P> {
 
     ghost Value = { SeatState P };
 
-    ghost view = { λ s. record { host = s.host; progress = s.worker; link = s.wires.link; due = s.wires.due; faults = s.wires.faults } };
+    ghost view = { λ s. record { host = s.host; progress = s.worker; link = s.wires.link; calls_to_fault = s.wires.calls_to_fault; faults = s.wires.faults } };
 
-    ghost invariant = { λ s. HasClaimed s.worker (P.known s.host.device.port) };
+    ghost invariant = { λ s. HasClaimed s.worker (P.port_view s.host.device.port) };
 }
 
 impl<P: Port> Seat<P> {
@@ -85,7 +85,7 @@ impl<P: Port> Seat<P> {
 
     /// Lets the call of this number on the wires, from now on, fail; see [`MemWires::fail_at`].
     pub fn fail_at(&mut self, call: u64)
-        ensures due { self.new ≡ record self.old { due = Some (call - 1) } }
+        ensures calls_to_fault { self.new ≡ record self.old { calls_to_fault = Some (call - 1) } }
     {
         self.wires.fail_at(call);
     }
@@ -102,7 +102,7 @@ impl Seat<PlainPort> {
     ) -> Result<Seat<PlainPort>, AllocError>
         requires least { 1 ≤ piece }
         requires most { piece ≤ 4096 }
-        ensures follows { IfOk result (λ s. Follows (fresh seed) [] (world_of s)) }
+        ensures follows { IfOk result (λ s. Refines (fresh seed) [] (world_of s)) }
         ensures made { IfOk result (StartsAs name piece) }
     {
         let device = Device::new(alloc, PlainPort::new())?;
@@ -134,10 +134,10 @@ impl Seat<PlainPort> {
     pub fn step(&mut self, line: &Event) -> Reply
         requires runs { is_running self.old.host.stage ≡ true }
         requires one_host { IsOneHostLine line.now }
-        ensures steps { (b : Base) (s : OneHost) → FollowsIn b s (world_of self.old) → StepsIn b s line.now result (world_of self.new) }
+        ensures steps { (b : Snapshot) (s : OneHost) → RefinesOneHost b s (world_of self.old) → StepRefinesOneHost b s line.now result (world_of self.new) }
         ensures others { self.new.host ≡ record self.old.host { device = self.new.host.device } }
-        ensures faults { (b : Base) (s : OneHost) → FollowsIn b s (world_of self.old) → CountsFault result self.old.faults self.new.faults }
-        ensures piece { (b : Base) (s : OneHost) → FollowsIn b s (world_of self.old) → self.new.link.desk.piece ≡ self.old.link.desk.piece }
+        ensures faults { (b : Snapshot) (s : OneHost) → RefinesOneHost b s (world_of self.old) → CountsFault result self.old.faults self.new.faults }
+        ensures piece { (b : Snapshot) (s : OneHost) → RefinesOneHost b s (world_of self.old) → self.new.link.emulator.piece ≡ self.old.link.emulator.piece }
         ensures printable { IsPrintable result }
     {
         match line {
@@ -154,7 +154,7 @@ impl Seat<PlainPort> {
     /// An access of the guest.
     pub fn access(&mut self, access: &Access) -> Reply
         requires runs { is_running self.old.host.stage ≡ true }
-        ensures steps { (b : Base) (s : OneHost) → FollowsIn b s (world_of self.old) → StepsIn b s (Event.Access access.now) result (world_of self.new) }
+        ensures steps { (b : Snapshot) (s : OneHost) → RefinesOneHost b s (world_of self.old) → StepRefinesOneHost b s (Event.Access access.now) result (world_of self.new) }
         ensures others { self.new.host ≡ record self.old.host { device = self.new.host.device } }
         ensures wires { wires_of self.new ≡ wires_of self.old }
         ensures faults { CountsFault result self.old.faults self.new.faults }
@@ -173,10 +173,10 @@ impl Seat<PlainPort> {
     /// One step of the worker.
     pub fn work(&mut self) -> Reply
         requires runs { is_running self.old.host.stage ≡ true }
-        ensures steps { (b : Base) (s : OneHost) → FollowsIn b s (world_of self.old) → StepsIn b s Event.Work result (world_of self.new) }
+        ensures steps { (b : Snapshot) (s : OneHost) → RefinesOneHost b s (world_of self.old) → StepRefinesOneHost b s Event.Work result (world_of self.new) }
         ensures others { self.new.host ≡ record self.old.host { device = self.new.host.device } }
-        ensures faults { (b : Base) (s : OneHost) → FollowsIn b s (world_of self.old) → CountsFault result self.old.faults self.new.faults }
-        ensures piece { (b : Base) (s : OneHost) → FollowsIn b s (world_of self.old) → self.new.link.desk.piece ≡ self.old.link.desk.piece }
+        ensures faults { (b : Snapshot) (s : OneHost) → RefinesOneHost b s (world_of self.old) → CountsFault result self.old.faults self.new.faults }
+        ensures piece { (b : Snapshot) (s : OneHost) → RefinesOneHost b s (world_of self.old) → self.new.link.emulator.piece ≡ self.old.link.emulator.piece }
         ensures printable { IsPrintable result }
     {
         let _side = self.host.side();
@@ -186,10 +186,10 @@ impl Seat<PlainPort> {
 
     /// A cancel over the control channel of the emulator.
     pub fn ask(&mut self) -> Reply
-        ensures steps { (b : Base) (s : OneHost) → FollowsIn b s (world_of self.old) → StepsIn b s Event.Ask result (world_of self.new) }
+        ensures steps { (b : Snapshot) (s : OneHost) → RefinesOneHost b s (world_of self.old) → StepRefinesOneHost b s Event.Ask result (world_of self.new) }
         ensures others { self.new.host ≡ self.old.host }
-        ensures faults { (b : Base) (s : OneHost) → FollowsIn b s (world_of self.old) → CountsFault result self.old.faults self.new.faults }
-        ensures piece { (b : Base) (s : OneHost) → FollowsIn b s (world_of self.old) → self.new.link.desk.piece ≡ self.old.link.desk.piece }
+        ensures faults { (b : Snapshot) (s : OneHost) → RefinesOneHost b s (world_of self.old) → CountsFault result self.old.faults self.new.faults }
+        ensures piece { (b : Snapshot) (s : OneHost) → RefinesOneHost b s (world_of self.old) → self.new.link.emulator.piece ≡ self.old.link.emulator.piece }
         ensures printable { IsPrintable result }
     {
         match cancel(&mut self.wires) {
@@ -201,10 +201,10 @@ impl Seat<PlainPort> {
     /// A reset of the guest. Where the emulator can't be powered on anew the device is given up.
     pub fn reset(&mut self) -> Reply
         requires runs { is_running self.old.host.stage ≡ true }
-        ensures steps { (b : Base) (s : OneHost) → FollowsIn b s (world_of self.old) → StepsIn b s Event.Reset result (world_of self.new) }
+        ensures steps { (b : Snapshot) (s : OneHost) → RefinesOneHost b s (world_of self.old) → StepRefinesOneHost b s Event.Reset result (world_of self.new) }
         ensures others { self.new.host ≡ record self.old.host { device = self.new.host.device } }
-        ensures faults { (b : Base) (s : OneHost) → FollowsIn b s (world_of self.old) → CountsFault result self.old.faults self.new.faults }
-        ensures piece { (b : Base) (s : OneHost) → FollowsIn b s (world_of self.old) → self.new.link.desk.piece ≡ self.old.link.desk.piece }
+        ensures faults { (b : Snapshot) (s : OneHost) → RefinesOneHost b s (world_of self.old) → CountsFault result self.old.faults self.new.faults }
+        ensures piece { (b : Snapshot) (s : OneHost) → RefinesOneHost b s (world_of self.old) → self.new.link.emulator.piece ≡ self.old.link.emulator.piece }
         ensures printable { IsPrintable result }
     {
         if self.host.reset().is_err() {
@@ -224,8 +224,8 @@ impl Seat<PlainPort> {
 
     /// A line that lets a call on the wires fail.
     pub fn fail(&mut self, host: HostName, call: u32) -> Reply
-        ensures steps { (b : Base) (s : OneHost) → FollowsIn b s (world_of self.old) → StepsIn b s (Event.Fail host call) result (world_of self.new) }
-        ensures others { self.new ≡ record self.old { due = self.new.due } }
+        ensures steps { (b : Snapshot) (s : OneHost) → RefinesOneHost b s (world_of self.old) → StepRefinesOneHost b s (Event.Fail host call) result (world_of self.new) }
+        ensures others { self.new ≡ record self.old { calls_to_fault = self.new.calls_to_fault } }
         ensures faults { CountsFault result self.old.faults self.new.faults }
         ensures printable { IsPrintable result }
     {

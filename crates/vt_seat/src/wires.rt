@@ -1,11 +1,11 @@
 //! Wires in memory.
 ghost use Rattle.std.specs.Prelude.{◌≡◌, ◌-◌, ◌≤◌, Some, None, [], IfOk, length, take, min};
 ghost use Rattle.vt_base.specs.Faults.{IsCounted};
-ghost use Rattle.ctrl_client.specs.Desk.{is_nil};
-ghost use Rattle.ctrl_client.specs.Link.{cut, Handed, opened, lane_of, taken};
-ghost use Rattle.vt_seat.specs.Wires.{wires_to, emulator_of, is_due, passed};
+ghost use Rattle.ctrl_model.specs.Emulator.{is_nil};
+ghost use Rattle.ctrl_model.specs.Link.{cut, Handed, opened, channel_of, taken};
+ghost use Rattle.vt_seat.specs.Wires.{wires_to, emulator_of, fails_next, after_call};
 
-use crate::waiting::{Replies, Responses};
+use crate::pending::{PendingReply, PendingResponse};
 use ctrl_client::Wires;
 use ctrl_codec::Out;
 use std::alloc::{AllocError, Global};
@@ -17,9 +17,9 @@ use vt_emulator::{Desk, Emulator};
 #[derive(Drop)]
 pub struct MemWires {
     emulator: Emulator,
-    replies: Replies,
-    responses: Responses,
-    due: Option<u64>,
+    replies: PendingReply,
+    responses: PendingResponse,
+    calls_to_fault: Option<u64>,
     faults: u64,
 }
 
@@ -28,7 +28,7 @@ impl Model for MemWires {
 
     ghost Value = { WiresState };
 
-    ghost view = { λ w. record { link = link_of w.emulator w.replies w.responses; due = w.due; faults = w.faults } };
+    ghost view = { λ w. record { link = link_of w.emulator w.replies w.responses; calls_to_fault = w.calls_to_fault; faults = w.faults } };
 }
 
 impl MemWires {
@@ -38,9 +38,9 @@ impl MemWires {
     {
         Ok(MemWires {
             emulator,
-            replies: Replies::new(),
-            responses: Responses::new(alloc)?,
-            due: None,
+            replies: PendingReply::new(),
+            responses: PendingResponse::new(alloc)?,
+            calls_to_fault: None,
             faults: 0,
         })
     }
@@ -55,24 +55,24 @@ impl MemWires {
     /// Lets the call of this number, from now on, fail. The next call has the number 1, and 0 is taken for it. An earlier
     /// number whose call hasn't come is forgotten.
     pub fn fail_at(&mut self, call: u64)
-        ensures due { self.new ≡ record self.old { due = Some (call - 1) } }
+        ensures calls_to_fault { self.new ≡ record self.old { calls_to_fault = Some (call - 1) } }
     {
-        self.due = Some(call.saturating_sub(1));
+        self.calls_to_fault = Some(call.saturating_sub(1));
     }
 
     // Counts a call, and answers whether it is to fail.
     fn count(&mut self) -> bool
-        ensures due { result ≡ is_due self.old.due }
-        ensures after { self.new ≡ record self.old { due = passed self.old.due } }
+        ensures calls_to_fault { result ≡ fails_next self.old.calls_to_fault }
+        ensures after { self.new ≡ record self.old { calls_to_fault = after_call self.old.calls_to_fault } }
     {
-        match self.due {
+        match self.calls_to_fault {
             None => false,
             Some(0) => {
-                self.due = None;
+                self.calls_to_fault = None;
                 true
             }
             Some(before) => {
-                self.due = Some(before - 1);
+                self.calls_to_fault = Some(before - 1);
                 false
             }
         }
@@ -97,7 +97,7 @@ impl MemWires {
     // Forgets the bytes of a channel, and counts the fault.
     fn fault(&mut self, chan: Chan)
         ensures link { self.new.link ≡ cut chan self.old.link }
-        ensures due { self.new.due ≡ self.old.due }
+        ensures calls_to_fault { self.new.calls_to_fault ≡ self.old.calls_to_fault }
         ensures faults { IsCounted self.old.faults self.new.faults }
     {
         self.forget(chan);
@@ -107,7 +107,7 @@ impl MemWires {
     // Hands control bytes to the emulator, unless its channel is closed or a reply waits.
     fn ask(&mut self, bytes: &[u8])
         ensures link { Handed Chan.Ctrl bytes.now self.old.link self.new.link }
-        ensures due { self.new.due ≡ self.old.due }
+        ensures calls_to_fault { self.new.calls_to_fault ≡ self.old.calls_to_fault }
         ensures faults { self.new.faults ≡ self.old.faults }
     {
         if self.emulator.is_closed() || !self.replies.is_empty() {
@@ -121,7 +121,7 @@ impl MemWires {
     // Hands bytes of a command to the emulator, unless it holds one or a response waits.
     fn command(&mut self, bytes: &[u8])
         ensures link { Handed Chan.Data bytes.now self.old.link self.new.link }
-        ensures due { self.new.due ≡ self.old.due }
+        ensures calls_to_fault { self.new.calls_to_fault ≡ self.old.calls_to_fault }
         ensures faults { self.new.faults ≡ self.old.faults }
     {
         if self.responses.is_empty() {
@@ -132,8 +132,8 @@ impl MemWires {
     // Runs the command that is held, if the channel is that of commands and no bytes wait.
     fn open(&mut self, chan: Chan)
         ensures link { self.new.link ≡ opened chan self.old.link }
-        ensures silent { (lane_of chan self.new.link).waiting ≡ [] → self.new.link ≡ self.old.link }
-        ensures due { self.new.due ≡ self.old.due }
+        ensures silent { (channel_of chan self.new.link).pending ≡ [] → self.new.link ≡ self.old.link }
+        ensures calls_to_fault { self.new.calls_to_fault ≡ self.old.calls_to_fault }
         ensures faults { self.new.faults ≡ self.old.faults }
     {
         if let Chan::Data = chan {
@@ -145,7 +145,7 @@ impl MemWires {
 
     // Whether no bytes wait.
     fn is_silent(&self, chan: Chan) -> bool
-        ensures { result ≡ is_nil (lane_of chan self.now.link).waiting }
+        ensures { result ≡ is_nil (channel_of chan self.now.link).pending }
     {
         match chan {
             Chan::Data => self.responses.is_empty(),
@@ -155,10 +155,10 @@ impl MemWires {
 
     // Gives bytes that wait.
     fn give(&mut self, chan: Chan, into: &mut [u8]) -> usize
-        ensures count { result ≡ min (length into.old) (length (lane_of chan self.old.link).waiting) }
-        ensures given { take result into.new ≡ take (length into.old) (lane_of chan self.old.link).waiting }
+        ensures count { result ≡ min (length into.old) (length (channel_of chan self.old.link).pending) }
+        ensures given { take result into.new ≡ take (length into.old) (channel_of chan self.old.link).pending }
         ensures link { self.new.link ≡ taken chan (length into.old) self.old.link }
-        ensures due { self.new.due ≡ self.old.due }
+        ensures calls_to_fault { self.new.calls_to_fault ≡ self.old.calls_to_fault }
         ensures faults { self.new.faults ≡ self.old.faults }
     {
         match chan {
@@ -170,21 +170,21 @@ impl MemWires {
 
 impl Wires for MemWires {
     ghost use Rattle.std.specs.Prelude.{Some, None, ℕ, Option};
-    ghost use Rattle.vt_seat.specs.Wires.{is_due, passed};
+    ghost use Rattle.vt_seat.specs.Wires.{fails_next, after_call};
 
     ghost link = { λ w. Some w.link };
 
     ghost faults = { λ w. w.faults };
 
-    ghost Plan = { Option ℕ };
+    ghost Schedule = { Option ℕ };
 
-    ghost plan = { λ w. w.due };
+    ghost schedule = { λ w. w.calls_to_fault };
 
-    ghost fails = { is_due };
+    ghost fails = { fails_next };
 
-    ghost later = { passed };
+    ghost later = { after_call };
 
-    // What passes is told by the link.
+    // What passes is determined by the link.
     ghost traffic = { λ _. None };
 
     fn send(&mut self, chan: Chan, bytes: &[u8]) -> Result<(), Failed> {

@@ -2,12 +2,12 @@
 use Rattle.std.proofs.Common.{◌≡◌, ℕ, ◌+◌, ◌*◌, Bool, true, false, not, Option, Some, None, refl, ap, ◌∙◌, arith}
 use Rattle.std.specs.Prelude.{if◌then◌else◌}
 use Rattle.std.proofs.lemmas.Bool.{ltb-true, ne_eqb}
-use Rattle.crb_port.specs.Known.{Known}
-use Rattle.crb_port.specs.declared.job.Standing.{Standing}
+use Rattle.crb_port.specs.Views.{PortView}
+use Rattle.crb_port.specs.declared.job.PortState.{PortState}
 use Rattle.crb_machine.specs.Model.{DeviceModel}
 use Rattle.tpm_core.specs.declared.parts.TpmParts.{TpmParts}
-use Rattle.move_codec.specs.declared.names.HostName.{HostName}
-use Rattle.move_codec.specs.declared.names.HostName.TheVariants.{A, B}
+use Rattle.vt_base.specs.declared.types.HostName.{HostName}
+use Rattle.vt_base.specs.declared.types.HostName.TheVariants.{A, B}
 use Rattle.move_core.specs.Model.{HostModel}
 use Rattle.move_core.specs.Requests.{WiresView}
 use Rattle.move_core.specs.Sides.{other, is_active, is_running}
@@ -46,7 +46,7 @@ at_by false false n is = absurd cc
 pub at_a : {P : Type 0} (w : PairState P) (n : HostName) → running_host w ≡ Some n → runs_at_a w ≡ is_a n
 at_a w n is = at_by (runs_at_a w) (is_running w.b.host.stage) n is
 
-pub at_world : (w : PairState Standing) (n : HostName) → running_host w ≡ Some n → running_world w ≡ world_of (seat_of n w)
+pub at_world : (w : PairState PortState) (n : HostName) → running_host w ≡ Some n → running_world w ≡ world_of (seat_of n w)
 at_world w A is = ap (λ (b : Bool). if b then world_of w.a else world_of w.b) (at_a w A is)
 at_world w B is = ap (λ (b : Bool). if b then world_of w.a else world_of w.b) (at_a w B is)
 
@@ -70,31 +70,31 @@ first_kept : (n : ℕ) (lost : Option ℕ) → arrives n lost ≡ true → loses
 first_kept n None is = refl
 first_kept n (Some k) is = ne_eqb k 1 (λ same. absurd (omega (arith, same, ltb-true (2 * n + 2) k is)))
 
-taken_back : {P : Type 0} (known : P → Known) (source : HostModel P) (stopped : DeviceModel P) (target : HostModel P) (epoch : ℕ) (new_source new_target : HostModel P)
-    → IsTakenBack known source stopped target epoch new_source new_target → HostsAfter false false epoch target new_source new_target
-taken_back {P} known source stopped target epoch new_source new_target back = record {
+taken_back : {P : Type 0} (port_view : P → PortView) (source : HostModel P) (stopped : DeviceModel P) (target : HostModel P) (epoch : ℕ) (new_source new_target : HostModel P)
+    → IsTakenBack port_view source stopped target epoch new_source new_target → HostsAfter false false epoch target new_source new_target
+taken_back {P} port_view source stopped target epoch new_source new_target back = record {
   source_runs = ap (λ (h : HostModel P). is_running h.stage) back.0.source_is;
   target_runs = ap (λ (h : HostModel P). is_running h.stage) back.1.0;
   source_top = ap (λ (h : HostModel P). h.top) back.0.source_is;
   target_top = ap (λ (h : HostModel P). h.top) back.1.0;
 }
 
-hosts_after : {P Plan : Type 0} (arrived first : Bool) (known : P → Known) (source : HostModel P) (stopped : DeviceModel P) (tpm : Option TpmParts) (target : HostModel P) (epoch : ℕ) (new_source new_target : HostModel P) (v : WiresView Plan)
-    → (arrived ≡ true → first ≡ false) → is_active target.stage ≡ false → MoveEnds arrived first known source stopped tpm target epoch new_source new_target v → HostsAfter arrived first epoch target new_source new_target
-hosts_after true true known source stopped tpm target epoch new_source new_target v sure rests ends = absurd (let wrong : true ≡ false = sure refl in cc)
-hosts_after {P} {Plan} true false known source stopped tpm target epoch new_source new_target v sure rests ends = record {
+hosts_after : {P Schedule : Type 0} (arrived first : Bool) (port_view : P → PortView) (source : HostModel P) (stopped : DeviceModel P) (tpm : Option TpmParts) (target : HostModel P) (epoch : ℕ) (new_source new_target : HostModel P) (v : WiresView Schedule)
+    → (arrived ≡ true → first ≡ false) → is_active target.stage ≡ false → MoveEnds arrived first port_view source stopped tpm target epoch new_source new_target v → HostsAfter arrived first epoch target new_source new_target
+hosts_after true true port_view source stopped tpm target epoch new_source new_target v succeeds_if_promised rests ends = absurd (let wrong : true ≡ false = succeeds_if_promised refl in cc)
+hosts_after {P} {Schedule} true false port_view source stopped tpm target epoch new_source new_target v succeeds_if_promised rests ends = record {
   source_runs = ap (λ (h : HostModel P). is_running h.stage) ends.source_is;
   target_runs = ap (λ (h : HostModel P). is_running h.stage) ends.target_is;
   source_top = ap (λ (h : HostModel P). h.top) ends.source_is;
   target_top = ap (λ (h : HostModel P). h.top) ends.target_is;
 }
-hosts_after {P} {Plan} false true known source stopped tpm target epoch new_source new_target v sure rests ends = record {
+hosts_after {P} {Schedule} false true port_view source stopped tpm target epoch new_source new_target v succeeds_if_promised rests ends = record {
   source_runs = ap (λ (h : HostModel P). is_running h.stage) ends.0.source_is;
   target_runs = ap (λ (h : HostModel P). is_running h.stage) ends.1 ∙ idle_stage target.stage rests;
   source_top = ap (λ (h : HostModel P). h.top) ends.0.source_is;
   target_top = ap (λ (h : HostModel P). h.top) ends.1;
 }
-hosts_after false false known source stopped tpm target epoch new_source new_target v sure rests ends = taken_back known source stopped target epoch new_source new_target ends
+hosts_after false false port_view source stopped tpm target epoch new_source new_target v succeeds_if_promised rests ends = taken_back port_view source stopped target epoch new_source new_target ends
 
 -- ---- the placement after a move
 
@@ -123,39 +123,39 @@ placed_after B ta tb false first old new is after = record {
   top_b = after.source_top ∙ ap (λ (t : ℕ). t + 1) is.top_b;
 }
 
-pub placed_by : {P : Type 0} (r : HostName) (ta tb : ℕ) (here : Bool) → here ≡ is_a r → (known : P → Known) (lost : Option ℕ) (old new : PairState P) (m : MovesFrom here known lost old new)
+pub placed_by : {P : Type 0} (r : HostName) (ta tb : ℕ) (here : Bool) → here ≡ is_a r → (port_view : P → PortView) (lost : Option ℕ) (old new : PairState P) (m : MovesFrom here port_view lost old new)
     → is_active (seat_of (other r) old).host.stage ≡ false → IsPlaced (record { running = r; top_a = ta; top_b = tb }) old
-    → IsPlaced (moved (pieces_moved_from here known lost old new m) lost (record { running = r; top_a = ta; top_b = tb })) new
-placed_by A ta tb true at known lost old new m rests is =
+    → IsPlaced (moved (pieces_moved_from here port_view lost old new m) lost (record { running = r; top_a = ta; top_b = tb })) new
+placed_by A ta tb true at port_view lost old new m rests is =
     let n = pieces_from (record old.a.host { device = m.moved.stopped }) (Some old.a.link) in
     placed_after A ta tb (arrives n lost) (loses lost 1) old new is
-    (hosts_after (arrives n lost) (loses lost 1) known old.a.host m.moved.stopped old.a.link.desk.tpm old.b.host (old.a.host.top + 1) new.a.host new.b.host (view_of new.b) (first_kept n lost) rests m.moved.ends)
-placed_by B ta tb false at known lost old new m rests is =
+    (hosts_after (arrives n lost) (loses lost 1) port_view old.a.host m.moved.stopped old.a.link.emulator.tpm old.b.host (old.a.host.top + 1) new.a.host new.b.host (view_of new.b) (first_kept n lost) rests m.moved.ends)
+placed_by B ta tb false at port_view lost old new m rests is =
     let n = pieces_from (record old.b.host { device = m.moved.stopped }) (Some old.b.link) in
     placed_after B ta tb (arrives n lost) (loses lost 1) old new is
-    (hosts_after (arrives n lost) (loses lost 1) known old.b.host m.moved.stopped old.b.link.desk.tpm old.a.host (old.b.host.top + 1) new.b.host new.a.host (view_of new.a) (first_kept n lost) rests m.moved.ends)
-placed_by A ta tb false at known lost old new m rests is = absurd cc
-placed_by B ta tb true at known lost old new m rests is = absurd cc
+    (hosts_after (arrives n lost) (loses lost 1) port_view old.b.host m.moved.stopped old.b.link.emulator.tpm old.a.host (old.b.host.top + 1) new.b.host new.a.host (view_of new.a) (first_kept n lost) rests m.moved.ends)
+placed_by A ta tb false at port_view lost old new m rests is = absurd cc
+placed_by B ta tb true at port_view lost old new m rests is = absurd cc
 
-rests_by : {P : Type 0} (r : HostName) (here : Bool) → here ≡ is_a r → (known : P → Known) (old : PairState P) → CanMoveFrom here known old → is_active (seat_of (other r) old).host.stage ≡ false
-rests_by A true at known old can = can.can_move.rests
-rests_by B false at known old can = can.can_move.rests
-rests_by A false at known old can = absurd cc
-rests_by B true at known old can = absurd cc
+rests_by : {P : Type 0} (r : HostName) (here : Bool) → here ≡ is_a r → (port_view : P → PortView) (old : PairState P) → CanMoveFrom here port_view old → is_active (seat_of (other r) old).host.stage ≡ false
+rests_by A true at port_view old can = can.can_move.rests
+rests_by B false at port_view old can = can.can_move.rests
+rests_by A false at port_view old can = absurd cc
+rests_by B true at port_view old can = absurd cc
 
-pub pair_placed : {P : Type 0} (known : P → Known) (lost : Option ℕ) (s : Placement) (old new : PairState P) (m : PairMoves known lost old new) → PairCanMove known old → IsPlaced s old
-    → IsPlaced (moved (pieces_moved known lost old new m) lost s) new
-pair_placed known lost s old new m can is =
-    placed_by s.running s.top_a s.top_b (runs_at_a old) (at_a old s.running is.running) known lost old new m (rests_by s.running (runs_at_a old) (at_a old s.running is.running) known old can) is
+pub pair_placed : {P : Type 0} (port_view : P → PortView) (lost : Option ℕ) (s : Placement) (old new : PairState P) (m : PairMoves port_view lost old new) → PairCanMove port_view old → IsPlaced s old
+    → IsPlaced (moved (pieces_moved port_view lost old new m) lost s) new
+pair_placed port_view lost s old new m can is =
+    placed_by s.running s.top_a s.top_b (runs_at_a old) (at_a old s.running is.running) port_view lost old new m (rests_by s.running (runs_at_a old) (at_a old s.running is.running) port_view old can) is
 
-pub back_by : {P : Type 0} (r : HostName) (ta tb : ℕ) (here : Bool) → here ≡ is_a r → (known : P → Known) (old new : PairState P) → GivesUpFrom here known old new
+pub back_by : {P : Type 0} (r : HostName) (ta tb : ℕ) (here : Bool) → here ≡ is_a r → (port_view : P → PortView) (old new : PairState P) → GivesUpFrom here port_view old new
     → IsPlaced (record { running = r; top_a = ta; top_b = tb }) old → IsPlaced (given_up (record { running = r; top_a = ta; top_b = tb })) new
-back_by A ta tb true at known old new m is =
-    placed_after A ta tb false false old new is (taken_back known old.a.host m.given_up.stopped old.b.host (old.a.host.top + 1) new.a.host new.b.host m.given_up.taken_back)
-back_by B ta tb false at known old new m is =
-    placed_after B ta tb false false old new is (taken_back known old.b.host m.given_up.stopped old.a.host (old.b.host.top + 1) new.b.host new.a.host m.given_up.taken_back)
-back_by A ta tb false at known old new m is = absurd cc
-back_by B ta tb true at known old new m is = absurd cc
+back_by A ta tb true at port_view old new m is =
+    placed_after A ta tb false false old new is (taken_back port_view old.a.host m.given_up.stopped old.b.host (old.a.host.top + 1) new.a.host new.b.host m.given_up.taken_back)
+back_by B ta tb false at port_view old new m is =
+    placed_after B ta tb false false old new is (taken_back port_view old.b.host m.given_up.stopped old.a.host (old.b.host.top + 1) new.b.host new.a.host m.given_up.taken_back)
+back_by A ta tb false at port_view old new m is = absurd cc
+back_by B ta tb true at port_view old new m is = absurd cc
 
-pub pair_back : {P : Type 0} (known : P → Known) (s : Placement) (old new : PairState P) → PairGivesUp known old new → IsPlaced s old → IsPlaced (given_up s) new
-pair_back known s old new m is = back_by s.running s.top_a s.top_b (runs_at_a old) (at_a old s.running is.running) known old new m is
+pub pair_back : {P : Type 0} (port_view : P → PortView) (s : Placement) (old new : PairState P) → PairGivesUp port_view old new → IsPlaced s old → IsPlaced (given_up s) new
+pair_back port_view s old new m is = back_by s.running s.top_a s.top_b (runs_at_a old) (at_a old s.running is.running) port_view old new m is

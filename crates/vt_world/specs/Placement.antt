@@ -1,11 +1,11 @@
 -- Where the guest of two hosts is. (Own definitions.)
 use Rattle.std.specs.Prelude.{◌≡◌, ◌+◌, ℕ, if◌then◌else◌, length, Option, Some}
 use Rattle.std.specs.Int.{div_ceil}
-use Rattle.vt_base.specs.declared.words.Kind.TheVariants as kind
+use Rattle.vt_base.specs.declared.types.Kind.TheVariants as kind
 use Rattle.tpm_core.specs.declared.parts.TpmParts.{TpmParts}
-use Rattle.state_blobs.specs.Texts.{text_of}
-use Rattle.move_codec.specs.declared.names.HostName.{HostName}
-use Rattle.move_codec.specs.declared.names.HostName.TheVariants.{A, B}
+use Rattle.state_blobs.specs.Encodings.{encode_blob}
+use Rattle.vt_base.specs.declared.types.HostName.{HostName}
+use Rattle.vt_base.specs.declared.types.HostName.TheVariants.{A, B}
 use Rattle.move_core.specs.Sides.{other}
 use Rattle.hand_over.specs.Arrival.{arrives, loses}
 use Rattle.vt_world.specs.State.{PairState, running_host}
@@ -43,7 +43,7 @@ moved n lost s =
     placement_of (if arrives n lost then other s.running else s.running) s.running
     (top_of s.running s + 1) (if loses lost 1 then top_of (other s.running) s else top_of s.running s + 1)
 
--- one move that the source gave up for want of memory: the other host had taken the Offer
+-- one move that the source gave up for lack of memory: the other host had taken the Offer
 abbrev pub given_up : Placement → Placement
 given_up s = placement_of s.running s.running (top_of s.running s + 1) (top_of s.running s + 1)
 
@@ -59,4 +59,4 @@ pub record IsPlaced {P : Type 0} (s : Placement) (w : PairState P) : Type 0 wher
 abbrev pub pieces_by : ℕ → ℕ → TpmParts → ℕ
 pieces_by piece size t =
     div_ceil size piece
-    + (div_ceil (length (text_of kind.Permanent t)) piece + (div_ceil (length (text_of kind.Volatile t)) piece + div_ceil (length (text_of kind.Saved t)) piece))
+    + (div_ceil (length (encode_blob kind.Permanent t)) piece + (div_ceil (length (encode_blob kind.Volatile t)) piece + div_ceil (length (encode_blob kind.Saved t)) piece))

@@ -1,7 +1,7 @@
 -- What contracts see of two hosts with their wires. (Own definitions.)
 use Rattle.std.specs.Prelude.{Bool, if◌then◌else◌, Option, Some, None}
-use Rattle.move_codec.specs.declared.names.HostName.{HostName}
-use Rattle.move_codec.specs.declared.names.HostName.TheVariants.{A, B}
+use Rattle.vt_base.specs.declared.types.HostName.{HostName}
+use Rattle.vt_base.specs.declared.types.HostName.TheVariants.{A, B}
 use Rattle.move_core.specs.Sides.{is_running}
 use Rattle.vt_seat.specs.State.{SeatState}
 

@@ -1,13 +1,13 @@
 -- A world of two hosts and the messages between them. (Own definitions.)
 use Rattle.std.specs.Prelude.{◌≡◌, ℕ}
 use Rattle.crb_regs.specs.Access.{Access}
-use Rattle.crb_port.specs.declared.job.Standing.{Standing}
+use Rattle.crb_port.specs.declared.job.PortState.{PortState}
 use Rattle.two_seats.specs.Both.{TwoSeats, running_of}
 use Rattle.vt_world.specs.Pairs.{IsPairReady, PairLeads}
 use Rattle.vt_world.specs.State.{PairState}
 
 -- its hosts
-abbrev pub pair_of : TwoSeats → PairState Standing
+abbrev pub pair_of : TwoSeats → PairState PortState
 pair_of w = record { a = w.a; b = w.b }
 
 -- a line of the guest moves no guest and sends no message

@@ -16,9 +16,9 @@
 //! }
 //! ```
 //!
-//! [`World::save`] appends all that host A is to bytes, unless its worker has a command in hand, and leaves it as it was;
-//! [`World::load`] makes a world of such bytes whose A goes on where the saved one was, or says why they are none. The
-//! layout is that of [`saved_stream`].
+//! [`World::save`] appends all that host A is to bytes, unless its worker has a pending command, and leaves it as it
+//! was; [`World::load`] makes a world of such bytes whose A goes on where the saved one was, or says why they are none.
+//! The layout is that of [`saved_stream`].
 //!
 //! A [`Pair`] is two hosts without a bag, of which one runs a guest, each over wires of its own. [`Pair::move_all`] moves the
 //! guest to the other host, each message from hand to hand; the laws in [`laws`] say that it goes on there where its history

@@ -1,8 +1,8 @@
 //! The lines of a world that are about messages between its hosts.
 ghost use Rattle.std.specs.Prelude.{◌≡◌, ◌≤◌, ◌<◌, ℕ, List, take, vec_len, Ok, Err, true, false, IfOk, OnErr};
 ghost use Rattle.std.specs.Vec.{vec_capacity};
-ghost use Rattle.crb_history.specs.Base.{Base};
-ghost use Rattle.move_codec.specs.Spelling.{HasPiece};
+ghost use Rattle.crb_history.specs.Snapshot.{Snapshot};
+ghost use Rattle.move_codec.specs.Encoding.{HasPiece};
 ghost use Rattle.move_codec.specs.declared.message.Message.{Message as Sent};
 ghost use Rattle.move_core.specs.Calls.{HasBytes};
 ghost use Rattle.two_hosts.specs.Hosts.{TwoHosts};
@@ -14,10 +14,10 @@ ghost use Rattle.vt_script.specs.declared.event.Event.TheVariants.{Offer, Delive
 use crate::world::World;
 use crb_machine::stopped_devices_go_on;
 use crb_port::PlainPort;
-use move_codec::{Body, HostName, Message, Reason, write_message};
+use move_codec::{Body, Message, Reason, write_message};
 use move_core::{Delivered, OfferFault};
 use std::alloc::{AllocError, Global};
-use vt_base::Bytes;
+use vt_base::{Bytes, HostName};
 use vt_script::Reply;
 
 /// How many messages the bag keeps.
@@ -29,8 +29,8 @@ const LARGEST_PIECE: usize = 4096;
 impl World {
     // The host that runs offers its guest to the other one.
     pub(crate) fn offer(&mut self) -> Result<Reply, AllocError>
-        ensures steps { IfOk result (λ reply. (b : Base) (piece : ℕ) (t : TwoHosts) → FollowsBoth b piece t self.old → StepsBoth b piece t Offer reply self.new) }
-        ensures faults { IfOk result (λ reply. (b : Base) (piece : ℕ) (t : TwoHosts) → FollowsBoth b piece t self.old → CountsBoth t Offer reply self.old self.new) }
+        ensures steps { IfOk result (λ reply. (b : Snapshot) (piece : ℕ) (t : TwoHosts) → FollowsBoth b piece t self.old → StepsBoth b piece t Offer reply self.new) }
+        ensures faults { IfOk result (λ reply. (b : Snapshot) (piece : ℕ) (t : TwoHosts) → FollowsBoth b piece t self.old → CountsBoth t Offer reply self.old self.new) }
         ensures same { OnErr result (self.new ≡ self.old) }
         ensures printable { IfOk result IsPrintable }
     {
@@ -52,8 +52,8 @@ impl World {
     // The message of this number is delivered to the host that it names. It stays in the bag.
     pub(crate) fn deliver(&mut self, alloc: Global, number: u32) -> Result<Reply, AllocError>
         requires least { 1 ≤ number }
-        ensures steps { IfOk result (λ reply. (b : Base) (piece : ℕ) (t : TwoHosts) → FollowsBoth b piece t self.old → StepsBoth b piece t (Deliver number) reply self.new) }
-        ensures faults { IfOk result (λ reply. (b : Base) (piece : ℕ) (t : TwoHosts) → FollowsBoth b piece t self.old → CountsBoth t (Deliver number) reply self.old self.new) }
+        ensures steps { IfOk result (λ reply. (b : Snapshot) (piece : ℕ) (t : TwoHosts) → FollowsBoth b piece t self.old → StepsBoth b piece t (Deliver number) reply self.new) }
+        ensures faults { IfOk result (λ reply. (b : Snapshot) (piece : ℕ) (t : TwoHosts) → FollowsBoth b piece t self.old → CountsBoth t (Deliver number) reply self.old self.new) }
         ensures same { OnErr result (self.new ≡ self.old) }
         ensures printable { IfOk result IsPrintable }
     {
@@ -81,8 +81,8 @@ impl World {
 
     // The host that offers its guest takes the offer back.
     pub(crate) fn give_up(&mut self) -> Result<Reply, AllocError>
-        ensures steps { IfOk result (λ reply. (b : Base) (piece : ℕ) (t : TwoHosts) → FollowsBoth b piece t self.old → StepsBoth b piece t GiveUp reply self.new) }
-        ensures faults { IfOk result (λ reply. (b : Base) (piece : ℕ) (t : TwoHosts) → FollowsBoth b piece t self.old → CountsBoth t GiveUp reply self.old self.new) }
+        ensures steps { IfOk result (λ reply. (b : Snapshot) (piece : ℕ) (t : TwoHosts) → FollowsBoth b piece t self.old → StepsBoth b piece t GiveUp reply self.new) }
+        ensures faults { IfOk result (λ reply. (b : Snapshot) (piece : ℕ) (t : TwoHosts) → FollowsBoth b piece t self.old → CountsBoth t GiveUp reply self.old self.new) }
         ensures same { OnErr result (self.new ≡ self.old) }
         ensures printable { IfOk result IsPrintable }
     {
@@ -98,8 +98,8 @@ impl World {
 
     // The host that is prepared says so again.
     pub(crate) fn again(&mut self) -> Result<Reply, AllocError>
-        ensures steps { IfOk result (λ reply. (b : Base) (piece : ℕ) (t : TwoHosts) → FollowsBoth b piece t self.old → StepsBoth b piece t Again reply self.new) }
-        ensures faults { IfOk result (λ reply. (b : Base) (piece : ℕ) (t : TwoHosts) → FollowsBoth b piece t self.old → CountsBoth t Again reply self.old self.new) }
+        ensures steps { IfOk result (λ reply. (b : Snapshot) (piece : ℕ) (t : TwoHosts) → FollowsBoth b piece t self.old → StepsBoth b piece t Again reply self.new) }
+        ensures faults { IfOk result (λ reply. (b : Snapshot) (piece : ℕ) (t : TwoHosts) → FollowsBoth b piece t self.old → CountsBoth t Again reply self.old self.new) }
         ensures same { OnErr result (self.new ≡ self.old) }
         ensures printable { IfOk result IsPrintable }
     {
@@ -116,8 +116,8 @@ impl World {
     // The message of this number is shown.
     pub(crate) fn show(&self, alloc: Global, number: u32) -> Result<Reply, AllocError>
         requires least { 1 ≤ number }
-        ensures steps { IfOk result (λ reply. (b : Base) (piece : ℕ) (t : TwoHosts) → FollowsBoth b piece t self.now → StepsBoth b piece t (Show number) reply self.now) }
-        ensures faults { IfOk result (λ reply. (b : Base) (piece : ℕ) (t : TwoHosts) → FollowsBoth b piece t self.now → CountsBoth t (Show number) reply self.now self.now) }
+        ensures steps { IfOk result (λ reply. (b : Snapshot) (piece : ℕ) (t : TwoHosts) → FollowsBoth b piece t self.now → StepsBoth b piece t (Show number) reply self.now) }
+        ensures faults { IfOk result (λ reply. (b : Snapshot) (piece : ℕ) (t : TwoHosts) → FollowsBoth b piece t self.now → CountsBoth t (Show number) reply self.now self.now) }
         ensures printable { IfOk result IsPrintable }
     {
         let at = number as usize - 1;

@@ -1,7 +1,7 @@
 //! Two hosts.
 ghost use Rattle.std.specs.Prelude.{◌≡◌, ◌≤◌, [], IfOk, IfSome, OnOk, OnErr};
-ghost use Rattle.crb_history.specs.Base.{fresh};
-ghost use Rattle.vt_seat.specs.Follows.{Follows};
+ghost use Rattle.crb_history.specs.Snapshot.{fresh};
+ghost use Rattle.vt_seat.specs.Follows.{Refines};
 ghost use Rattle.vt_seat.specs.Seats.{wires_of, world_of, StartsAs, IsEmptySeat};
 ghost use Rattle.vt_seat.specs.Wires.{emulator_of};
 ghost use Rattle.vt_world.specs.Moving.{PairCanMove, PairMoves, PairGivesUp};
@@ -11,11 +11,11 @@ ghost use Rattle.vt_world.specs.Pairs.{new_pair, IsPairReady};
 ghost use Rattle.vt_world.specs.State.{seat_of, running_host};
 
 use crb_port::{PlainPort, Port};
-use move_codec::HostName;
 use move_core::Host;
 use std::alloc::{AllocError, Global};
 use std::marker::Model;
 use tpm_core::SEED_SIZE;
+use vt_base::HostName;
 use vt_emulator::Emulator;
 use vt_seat::{MemWires, Seat};
 
@@ -28,7 +28,7 @@ pub struct Pair<P: Port> {
 
 impl<P: Port> Model for Pair<P> {
     ghost use Rattle.std.specs.Prelude.{◌≡◌};
-    ghost use Rattle.move_codec.specs.declared.names.HostName.TheVariants.{A, B};
+    ghost use Rattle.vt_base.specs.declared.types.HostName.TheVariants.{A, B};
     ghost use Rattle.vt_world.specs.State.{PairState};
 
     ghost Value = { PairState P };
@@ -48,7 +48,7 @@ impl Pair<PlainPort> {
     ) -> Result<Pair<PlainPort>, AllocError>
         requires least { 1 ≤ piece }
         requires most { piece ≤ 4096 }
-        ensures follows { IfOk result (λ w. Follows (fresh seed) [] (world_of w.a)) }
+        ensures follows { IfOk result (λ w. Refines (fresh seed) [] (world_of w.a)) }
         ensures a { IfOk result (λ w. StartsAs HostName.A piece w.a) }
         ensures b { IfOk result (λ w. IsEmptySeat HostName.B piece w.b) }
         ensures ready { IfOk result IsPairReady }
@@ -116,10 +116,10 @@ impl<P: Port> Pair<P> {
     /// Moves the guest that runs to the other host, each message from hand to hand. Message `lost` of the move is lost, where
     /// it is given; a move with fewer messages is a plain move. After `AllocError` the guest runs on where it was.
     pub fn move_all(&mut self, alloc: Global, lost: Option<u32>) -> Result<(), AllocError>
-        requires can_move { PairCanMove P.known self.old }
+        requires can_move { PairCanMove P.port_view self.old }
         requires counted { IfSome lost (λ k. 1 ≤ k) }
-        ensures moved { OnOk result (PairMoves P.known lost self.old self.new) }
-        ensures given_up { OnErr result (PairGivesUp P.known self.old self.new) }
+        ensures moved { OnOk result (PairMoves P.port_view lost self.old self.new) }
+        ensures given_up { OnErr result (PairGivesUp P.port_view self.old self.new) }
     {
         if self.a.is_running() {
             self.a.move_to(alloc, &mut self.b, lost)

@@ -1,17 +1,16 @@
 //! A world is saved, and made again from what was saved.
 ghost use Rattle.std.specs.Prelude.{◌≤◌, ◌≡◌, true, OnErr, IfOk};
-ghost use Rattle.crb_history.specs.Base.{Base};
-ghost use Rattle.crb_history.specs.Replies.{Transcript};
+ghost use Rattle.crb_history.specs.Snapshot.{Snapshot};
+ghost use Rattle.vt_transcript.specs.Replies.{Transcript};
 ghost use Rattle.move_core.specs.Sides.{is_running};
-ghost use Rattle.saved_stream.specs.Walks.{wanted_after};
-ghost use Rattle.vt_seat.specs.Follows.{Follows};
+ghost use Rattle.saved_stream.specs.Headers.{wanted_after};
+ghost use Rattle.vt_seat.specs.Follows.{Refines};
 ghost use Rattle.vt_seat.specs.Seats.{world_of};
 ghost use Rattle.vt_world.specs.Saving.{CanSave, Saves, Loads};
 
 use crate::world::World;
-use move_codec::HostName;
 use std::alloc::{AllocError, Global};
-use vt_base::Malformed;
+use vt_base::{HostName, Malformed};
 use vt_seat::{Saved, Seat};
 
 /// What a load came to.
@@ -33,15 +32,16 @@ impl World {
         saved_stream::wanted(begin)
     }
 
-    /// Appends the saved stream of host A: the record of its device and the blobs of its TPM. A command that was started and
-    /// that nobody has claimed is saved with the device. The world goes on as before. For want of memory nothing is appended.
+    /// Appends the saved stream of host A: the record of its device and the blobs of its TPM. A command that was
+    /// started and that nobody has claimed is saved with the device. The world goes on as before. For lack of memory
+    /// nothing is appended.
     ///
     /// The guest runs at A. No call on its wires may be ordered to fail, and its device may not be lost.
     pub fn save(&mut self, alloc: Global, into: &mut Vec<u8>) -> Result<Saved, AllocError>
         requires runs { is_running self.old.a.host.stage ≡ true }
-        requires can_save { (b : Base) × (t : Transcript) × CanSave b t (world_of self.old.a) }
-        ensures saves { IfOk result (λ saved. (b : Base) (t : Transcript) → CanSave b t (world_of self.old.a) → Saves b t saved into.old.items into.new.items) }
-        ensures goes_on { (b : Base) (t : Transcript) → CanSave b t (world_of self.old.a) → Follows b t (world_of self.new.a) }
+        requires can_save { (b : Snapshot) × (t : Transcript) × CanSave b t (world_of self.old.a) }
+        ensures saves { IfOk result (λ saved. (b : Snapshot) (t : Transcript) → CanSave b t (world_of self.old.a) → Saves b t saved into.old.items into.new.items) }
+        ensures goes_on { (b : Snapshot) (t : Transcript) → CanSave b t (world_of self.old.a) → Refines b t (world_of self.new.a) }
         ensures others { (self.new.b ≡ self.old.b) × (self.new.bag ≡ self.old.bag) }
         ensures err { OnErr result (into.new.items ≡ into.old.items) }
     {

@@ -1,25 +1,26 @@
 //! Two hosts, and the messages that were sent between them.
 ghost use Rattle.std.specs.Prelude.{◌≡◌, ◌≤◌, [], ℕ, true, None, Some, IfOk, OnErr};
-ghost use Rattle.crb_history.specs.Base.{Base, fresh};
-ghost use Rattle.crb_history.specs.OneHost.{OneHost};
-ghost use Rattle.crb_history.specs.Plain.{is_plain};
+ghost use Rattle.crb_history.specs.Snapshot.{Snapshot, fresh};
+ghost use Rattle.vt_transcript.specs.OneHost.{OneHost};
+ghost use Rattle.vt_transcript.specs.Plain.{is_plain};
 ghost use Rattle.move_core.specs.Sides.{is_running};
 ghost use Rattle.two_hosts.specs.Hosts.{TwoHosts, first_hosts};
 ghost use Rattle.two_seats.specs.Both.{FollowsBoth, StepsBoth, CountsBoth, running_of, seat_of};
 ghost use Rattle.vt_script.specs.Replies.{IsPrintable};
 ghost use Rattle.vt_script.specs.Script.{HasNumber};
 ghost use Rattle.vt_script.specs.declared.event.Event.TheVariants.{Fail};
-ghost use Rattle.vt_seat.specs.Follows.{Follows, FollowsIn, StepsIn};
+ghost use Rattle.vt_seat.specs.Follows.{Refines, RefinesOneHost, StepRefinesOneHost};
 ghost use Rattle.vt_seat.specs.Seats.{world_of};
 ghost use Rattle.vt_seat.specs.Wires.{emulator_of};
 ghost use Rattle.vt_world.specs.Worlds.{KeepsOthers, IsWorldReady};
 
 use crb_port::PlainPort;
-use move_codec::{HostName, Message};
+use move_codec::Message;
 use move_core::Host;
 use std::alloc::{AllocError, Global};
 use std::marker::Model;
 use tpm_core::SEED_SIZE;
+use vt_base::HostName;
 use vt_emulator::Emulator;
 use vt_script::{Event, Reply};
 use vt_seat::Seat;
@@ -51,7 +52,7 @@ impl World {
         requires least { 1 ≤ piece }
         requires most { piece ≤ 4096 }
         ensures follows { IfOk result (FollowsBoth (fresh seed) piece (first_hosts (fresh seed))) }
-        ensures at_a { IfOk result (λ w. Follows (fresh seed) [] (world_of w.a)) }
+        ensures at_a { IfOk result (λ w. Refines (fresh seed) [] (world_of w.a)) }
         ensures runs { IfOk result (λ w. is_running w.a.host.stage ≡ true) }
         ensures ready { IfOk result IsWorldReady }
     {
@@ -68,8 +69,8 @@ impl World {
     /// alone, the world is as before. The numbers of messages and of calls begin with 1.
     pub fn step(&mut self, alloc: Global, line: &Event) -> Result<Reply, AllocError>
         requires number { HasNumber line.now }
-        ensures steps { IfOk result (λ reply. (b : Base) (piece : ℕ) (t : TwoHosts) → FollowsBoth b piece t self.old → StepsBoth b piece t line.now reply self.new) }
-        ensures faults { IfOk result (λ reply. (b : Base) (piece : ℕ) (t : TwoHosts) → FollowsBoth b piece t self.old → CountsBoth t line.now reply self.old self.new) }
+        ensures steps { IfOk result (λ reply. (b : Snapshot) (piece : ℕ) (t : TwoHosts) → FollowsBoth b piece t self.old → StepsBoth b piece t line.now reply self.new) }
+        ensures faults { IfOk result (λ reply. (b : Snapshot) (piece : ℕ) (t : TwoHosts) → FollowsBoth b piece t self.old → CountsBoth t line.now reply self.old self.new) }
         ensures same { OnErr result (self.new ≡ self.old) }
         ensures printable { IfOk result IsPrintable }
     {
@@ -88,11 +89,11 @@ impl World {
     /// memory.
     pub fn guest(&mut self, line: &Event) -> Reply
         requires plain { is_plain line.now ≡ true }
-        ensures steps { (b : Base) (piece : ℕ) (t : TwoHosts) → FollowsBoth b piece t self.old → StepsBoth b piece t line.now result self.new }
-        ensures at_a { running_of self.old ≡ Some HostName.A → (b : Base) (s : OneHost) → FollowsIn b s (world_of self.old.a) → StepsIn b s line.now result (world_of self.new.a) }
-        ensures at_b { running_of self.old ≡ Some HostName.B → (b : Base) (s : OneHost) → FollowsIn b s (world_of self.old.b) → StepsIn b s line.now result (world_of self.new.b) }
+        ensures steps { (b : Snapshot) (piece : ℕ) (t : TwoHosts) → FollowsBoth b piece t self.old → StepsBoth b piece t line.now result self.new }
+        ensures at_a { running_of self.old ≡ Some HostName.A → (b : Snapshot) (s : OneHost) → RefinesOneHost b s (world_of self.old.a) → StepRefinesOneHost b s line.now result (world_of self.new.a) }
+        ensures at_b { running_of self.old ≡ Some HostName.B → (b : Snapshot) (s : OneHost) → RefinesOneHost b s (world_of self.old.b) → StepRefinesOneHost b s line.now result (world_of self.new.b) }
         ensures others { KeepsOthers self.old self.new }
-        ensures faults { (b : Base) (piece : ℕ) (t : TwoHosts) → FollowsBoth b piece t self.old → CountsBoth t line.now result self.old self.new }
+        ensures faults { (b : Snapshot) (piece : ℕ) (t : TwoHosts) → FollowsBoth b piece t self.old → CountsBoth t line.now result self.old self.new }
         ensures printable { IsPrintable result }
     {
         match self.running() {
@@ -141,8 +142,8 @@ impl World {
 
     // Lets a call on the wires of a host fail.
     fn fail(&mut self, host: HostName, call: u32) -> Reply
-        ensures steps { (b : Base) (piece : ℕ) (t : TwoHosts) → FollowsBoth b piece t self.old → StepsBoth b piece t (Fail host call) result self.new }
-        ensures faults { (b : Base) (piece : ℕ) (t : TwoHosts) → FollowsBoth b piece t self.old → CountsBoth t (Fail host call) result self.old self.new }
+        ensures steps { (b : Snapshot) (piece : ℕ) (t : TwoHosts) → FollowsBoth b piece t self.old → StepsBoth b piece t (Fail host call) result self.new }
+        ensures faults { (b : Snapshot) (piece : ℕ) (t : TwoHosts) → FollowsBoth b piece t self.old → CountsBoth t (Fail host call) result self.old self.new }
         ensures printable { IsPrintable result }
     {
         match host {

@@ -5,5 +5,5 @@ use Rattle.crb_worker.proofs.worker.answer_cancelled.Goals as goal
 
 pub returns-clause-posted : goal.returns-clause-posted
 returns-clause-posted g c =
-    let Goes : List ℕ → Type 0 = λ buf. Posts (g.P.Meanings.known c.args.port.now) (record { number = c.args.job.number; outcome = Cancelled; buf = buf }) (g.P.Meanings.known c.post.new.self) in
+    let Goes : List ℕ → Type 0 = λ buf. Posts (g.P.PortModel.port_view c.args.port.now) (record { number = c.args.job.number; outcome = Cancelled; buf = buf }) (g.P.PortModel.port_view c.post.new.self) in
     subst Goes c.write_short.ensures.response c.post.ensures.posts

@@ -1,5 +1,5 @@
-use Rattle.ctrl_codec.proofs.ReplyLaws.{spelling_says}
+use Rattle.ctrl_codec.proofs.ReplyLaws.{encoding_says}
 use Rattle.ctrl_codec.proofs.laws.written_replies_say.Goals as goal
 
 pub returns : goal.returns
-returns c = spelling_says
+returns c = encoding_says

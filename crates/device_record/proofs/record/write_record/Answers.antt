@@ -1,5 +1,5 @@
 use Rattle.crb_machine.specs.Values.{held_values}
-use Rattle.device_record.proofs.Values.{text_written, length-record_text}
+use Rattle.device_record.proofs.Values.{text_written, length-encode_record}
 use Rattle.device_record.proofs.record.write_record.Goals as goal
 
 pub returns-clause-text : goal.returns-clause-text
@@ -9,5 +9,5 @@ returns-clause-text g c =
 
 pub returns-clause-size : goal.returns-clause-size
 returns-clause-size g c =
-    length-record_text (held_values c.args.device.now) c.trimmed_length-count.result c.content-content.result.now
+    length-encode_record (held_values c.args.device.now) c.trimmed_length-count.result c.content-content.result.now
     c.content-content.ensures.value c.trimmed_length-count.ensures.trimmed c.trimmed_length-count.ensures.within

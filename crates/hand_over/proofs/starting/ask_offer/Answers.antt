@@ -3,15 +3,15 @@ use Rattle.hand_over.proofs.starting.ask_offer.Goals as goal
 
 pub unreachable-requires : goal.unreachable-requires
 unreachable-requires g c =
-    offer_comes g.P.Meanings.known (record { least = c.blobs_are_told_apart.ensures.least; most = c.blobs_are_told_apart.ensures.most }) c.args.source.now _ c.args.target.now _
-    c.requires.can c.requires.source_sound c.requires.target_sound c.stopped_devices_go_on.ensures.stopped c.in-Err.field-0 _ c.offer.new.self c.in-Err.ensures.offers
+    offer_comes g.P.PortModel.port_view (record { least = c.blobs_are_prefix_free.ensures.least; most = c.blobs_are_prefix_free.ensures.most }) c.args.source.now _ c.args.target.now _
+    c.requires.can c.requires.source_consistent c.requires.target_consistent c.stopped_devices_go_on.ensures.stopped c.in-Err.field-0 _ c.offer.new.self c.in-Err.ensures.offers
 
 pub returns-clause-moving : goal.returns-clause-moving
 returns-clause-moving g c =
-    offer_begins g.P.Meanings.known (record { least = c.blobs_are_told_apart.ensures.least; most = c.blobs_are_told_apart.ensures.most }) c.args.source.now _ c.args.target.now _
-    c.requires.can c.requires.source_sound c.requires.target_sound c.offer.new.self _ c.in-Ok.m c.in-Ok.ensures.offers c.in-Ok.ensures.sound c.in-Ok.ensures.name
+    offer_begins g.P.PortModel.port_view (record { least = c.blobs_are_prefix_free.ensures.least; most = c.blobs_are_prefix_free.ensures.most }) c.args.source.now _ c.args.target.now _
+    c.requires.can c.requires.source_consistent c.requires.target_consistent c.offer.new.self _ c.in-Ok.m c.in-Ok.ensures.offers c.in-Ok.ensures.consistent c.in-Ok.ensures.name
 
 pub returns-clause-link : goal.returns-clause-link
 returns-clause-link g c =
-    offer_link g.P.Meanings.known (record { least = c.blobs_are_told_apart.ensures.least; most = c.blobs_are_told_apart.ensures.most }) c.args.source.now _ c.args.target.now _
-    c.requires.can c.requires.source_sound c.requires.target_sound c.offer.new.self _ c.in-Ok.m c.in-Ok.ensures.offers c.in-Ok.ensures.sound c.in-Ok.ensures.name
+    offer_link g.P.PortModel.port_view (record { least = c.blobs_are_prefix_free.ensures.least; most = c.blobs_are_prefix_free.ensures.most }) c.args.source.now _ c.args.target.now _
+    c.requires.can c.requires.source_consistent c.requires.target_consistent c.offer.new.self _ c.in-Ok.m c.in-Ok.ensures.offers c.in-Ok.ensures.consistent c.in-Ok.ensures.name

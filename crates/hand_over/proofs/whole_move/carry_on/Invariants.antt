@@ -8,18 +8,18 @@ use Rattle.hand_over.proofs.whole_move.carry_on.Given as goal
 
 abbrev pub invariant-loop-lost : goal.invariant-loop-lost
 invariant-loop-lost g l = record {
-  moving : AreMoving g.P.Meanings.known (to_source l.m)
-      l.source (wires_view g.W.Wires.fails g.W.Wires.later (g.W.Wires.link l.from) (g.W.Wires.plan l.from) (g.W.Wires.faults l.from) (g.W.Wires.traffic l.from))
-      l.target (wires_view g.W.Wires.fails g.W.Wires.later (g.W.Wires.link l.to) (g.W.Wires.plan l.to) (g.W.Wires.faults l.to) (g.W.Wires.traffic l.to));
+  moving : AreMoving g.P.PortModel.port_view (to_source l.m)
+      l.source (wires_view g.W.Wires.fails g.W.Wires.later (g.W.Wires.link l.from) (g.W.Wires.schedule l.from) (g.W.Wires.faults l.from) (g.W.Wires.traffic l.from))
+      l.target (wires_view g.W.Wires.fails g.W.Wires.later (g.W.Wires.link l.to) (g.W.Wires.schedule l.to) (g.W.Wires.faults l.to) (g.W.Wires.traffic l.to));
   source_is : l.source ≡ record l.fn.source { stage = l.source.stage; record_bytes = l.source.record_bytes };
   link : g.W.Wires.link l.from ≡ g.W.Wires.link l.fn.from;
   target_is : IsSameTarget l.fn.target l.target;
   pieces : blob_piece (g.W.Wires.link l.to) ≡ blob_piece (g.W.Wires.link l.fn.to);
   commands : commands_at (g.W.Wires.link l.to) ≡ commands_at (g.W.Wires.link l.fn.to);
-  source_worker : KeepsWorker (g.P.Meanings.known l.fn.source.device.port) (g.P.Meanings.known l.source.device.port);
-  source_rest : g.P.Meanings.rest l.source.device.port ≡ g.P.Meanings.rest l.fn.source.device.port;
-  target_worker : KeepsWorker (g.P.Meanings.known l.fn.target.device.port) (g.P.Meanings.known l.target.device.port);
-  target_rest : g.P.Meanings.rest l.target.device.port ≡ g.P.Meanings.rest l.fn.target.device.port;
+  source_worker : KeepsWorker (g.P.PortModel.port_view l.fn.source.device.port) (g.P.PortModel.port_view l.source.device.port);
+  source_rest : g.P.PortModel.rest l.source.device.port ≡ g.P.PortModel.rest l.fn.source.device.port;
+  target_worker : KeepsWorker (g.P.PortModel.port_view l.fn.target.device.port) (g.P.PortModel.port_view l.target.device.port);
+  target_rest : g.P.PortModel.rest l.target.device.port ≡ g.P.PortModel.rest l.fn.target.device.port;
   count : l.number + messages_left l.source (g.W.Wires.link l.from) l.m ≡ 2 * pieces_from l.source (g.W.Wires.link l.from) + 3;
   ahead : IfSome l.lost (λ k. l.number ≤ k);
   small : l.number < 100000;

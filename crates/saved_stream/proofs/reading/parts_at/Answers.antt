@@ -1,5 +1,5 @@
 use Rattle.std.proofs.Common.{drop, sym, subst}
-use Rattle.vt_base.specs.declared.words.Malformed.{Malformed}
+use Rattle.vt_base.specs.declared.types.Malformed.{Malformed}
 use Rattle.saved_stream.specs.Parts.{parts}
 use Rattle.saved_stream.specs.Refusals.{ArePartsRefused}
 use Rattle.saved_stream.proofs.Passed.{err_with, permanent_stopped, volatile_stopped, saved_stopped}

@@ -1,6 +1,6 @@
 use Rattle.std.proofs.Common.{◌≡◌, ◌-◌, rules, sym, subst, ◌∙◌, inr}
 use Rattle.vt_base.specs.Numbers.{IsBytes}
-use Rattle.vt_base.specs.declared.words.Malformed.{Malformed}
+use Rattle.vt_base.specs.declared.types.Malformed.{Malformed}
 use Rattle.state_blobs.specs.Refusals.{length_field}
 use Rattle.saved_stream.specs.Refusals.{IsStreamRefused}
 use Rattle.saved_stream.proofs.Whole.{refused_length, refused_value, refused_extra, whole_stream, fault_of, made_of}

@@ -8,7 +8,7 @@ use Rattle.saved_stream.proofs.reading.record_in.Goals as goal
 pub returns-in_default-clause-part : goal.returns-in_default-clause-part
 returns-in_default-clause-part g c =
     part_to_end Record c.args.bytes.now c.split_at.result.1.now c.args.from c.split_at.ensures.back c.requires.from
-    (record_few c.records_are_told_apart.ensures.told _ _ c.in_default.ensures.ok) (held_values c.load_record.new.device, c.in_default.ensures.ok)
+    (record_few c.records_are_prefix_free.ensures.exact _ _ c.in_default.ensures.ok) (held_values c.load_record.new.device, c.in_default.ensures.ok)
 
 pub moved-requires : goal.moved-requires
 moved-requires g c = omega (arith, refused_near c.in-Err.fault _ c.in-Err.ensures.refused c.in_default-why.not-Extra)
@@ -20,5 +20,5 @@ returns-in_default-why-clause-refused g c =
 pub returns-clause-part : goal.returns-clause-part
 returns-clause-part g c =
     part_up_to Record c.args.bytes.now c.split_at.result.1.now c.args.from c.in-Err.fault.place c.split_at.ensures.back c.requires.from
-    (record_behind c.records_are_told_apart.ensures.extra c.in-Err.fault _ c.in-Err.ensures.refused c.in-Extra.is)
-    (record_few c.records_are_told_apart.ensures.told _ _ c.in-Ok.ensures.ok) (held_values c.load_record-2.new.device, c.in-Ok.ensures.ok)
+    (record_behind c.records_are_prefix_free.ensures.extra c.in-Err.fault _ c.in-Err.ensures.refused c.in-Extra.is)
+    (record_few c.records_are_prefix_free.ensures.exact _ _ c.in-Ok.ensures.ok) (held_values c.load_record-2.new.device, c.in-Ok.ensures.ok)

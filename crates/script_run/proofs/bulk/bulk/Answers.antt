@@ -8,8 +8,8 @@ use Rattle.script_run.proofs.Bulks.{length-bulk}
 use Rattle.script_run.proofs.Handing.{all-out, hands-pair}
 use Rattle.script_run.proofs.bulk.bulk.Goals as goal
 
-pub sum_up-summed-requires-clause-few : goal.sum_up-summed-requires-clause-few
-sum_up-summed-requires-clause-few g c = omega (arith, c.requires, length-bulk c.args.seed c.args.count, ap length c.new.ensures.lines)
+pub sum_up-summed-requires-clause-within_limit : goal.sum_up-summed-requires-clause-within_limit
+sum_up-summed-requires-clause-within_limit g c = omega (arith, c.requires, length-bulk c.args.seed c.args.count, ap length c.new.ensures.lines)
 
 pub returns-clause-hands_out : goal.returns-clause-hands_out
 returns-clause-hands_out g c =

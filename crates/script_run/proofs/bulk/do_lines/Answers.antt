@@ -13,13 +13,13 @@ use Rattle.script_run.proofs.bulk.do_lines.Goals as goal
 pub add-requires : goal.add-requires
 add-requires c =
     let done = c.loop-line.invariant.done in
-    let small = counts-small c.args.lines done.0 c.loop-line.lines done.1 c.requires.few in
+    let small = counts-small c.args.lines done.0 c.loop-line.lines done.1 c.requires.within_limit in
     record { room = omega (arith, small, done.3.commanded, done.3.moved) }
 
 pub respond-requires-clause-waits : goal.respond-requires-clause-waits
 respond-requires-clause-waits c =
     let done = c.loop-line.invariant.done in
-    can-respond done.0 c.loop-line.pair done.2 (omega (arith, counts-small c.args.lines done.0 c.loop-line.lines done.1 c.requires.few, counts-is done.0))
+    can-respond done.0 c.loop-line.pair done.2 (omega (arith, counts-small c.args.lines done.0 c.loop-line.lines done.1 c.requires.within_limit, counts-is done.0))
 
 pub loop-line-preserved-in_ok-respond : goal.loop-line-preserved-in_ok-respond
 loop-line-preserved-in_ok-respond c =

@@ -1,6 +1,6 @@
 use Rattle.std.proofs.Common.{length, refl, [], ◌∷◌, arith}
 use Rattle.vt_script.specs.Replies.{reply_text}
-use Rattle.crb_history.specs.Replies.{exchange}
+use Rattle.vt_transcript.specs.Replies.{exchange}
 use Rattle.script_run.specs.Ends.{HandsWorld}
 use Rattle.script_run.specs.Run.{texts, followed}
 use Rattle.script_run.proofs.Writing.{wrote-nothing}

@@ -1,6 +1,6 @@
 use Rattle.std.proofs.Common.{◌≡◌, length}
-use Rattle.crb_history.specs.Base.{Base}
-use Rattle.crb_history.specs.Replies.{Transcript}
+use Rattle.crb_history.specs.Snapshot.{Snapshot}
+use Rattle.vt_transcript.specs.Replies.{Transcript}
 use Rattle.two_hosts.specs.Hosts.{first_hosts}
 use Rattle.two_seats.specs.Both.{FollowsBoth}
 use Rattle.script_run.specs.Start.{piece}
@@ -12,7 +12,7 @@ use Rattle.script_run.proofs.replay.follow.Given as goal
 -- whatever values the host began with, the lines that are done have their replies written, or pending
 abbrev pub invariant-loop-text : goal.invariant-loop-text
 invariant-loop-text g l = record {
-  done : (b : Base) → FollowsBoth b piece (first_hosts b) l.fn.first → (t : Transcript) × StandsAt b l.script l.lines.rest t l.world
+  done : (b : Snapshot) → FollowsBoth b piece (first_hosts b) l.fn.first → (t : Transcript) × StandsAt b l.script l.lines.rest t l.world
       × HasWritten (seen (g.K.Sink.written l.fn.sink) (g.K.Sink.room l.fn.sink) (g.K.Sink.faults l.fn.sink)) (seen (g.K.Sink.written l.sink) (g.K.Sink.room l.sink) (g.K.Sink.faults l.sink)) l.pending.items (texts t) × (l.lines.number ≡ length t);
 }
 

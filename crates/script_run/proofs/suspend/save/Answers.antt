@@ -20,5 +20,5 @@ returns-in-Ok-NotYet g c = record {
   writes = λ b t can.
       let saves = subst (λ (s : Saved). Saves b t s c.new-stream.result.items c.save.new.into.items) c.in-Ok-NotYet.field-0-is (c.in-Ok-NotYet.ensures.saves b t can) in
       let fresh = subst (λ (old : List ℕ). Saves b t (saved.NotYet c.in-Ok-NotYet.number) old c.save.new.into.items) c.new-stream.ensures.items saves in
-      inr (inl (c.in-Ok-NotYet.number, c.save.new.into.items, fresh, c.not_yet.ensures.tells));
+      inr (inl (c.in-Ok-NotYet.number, c.save.new.into.items, fresh, c.not_yet.ensures.says));
 }

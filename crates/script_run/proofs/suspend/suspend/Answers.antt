@@ -1,6 +1,6 @@
 use Rattle.std.proofs.Common.{◌∙◌, length, refl, sym, [], ◌∷◌, arith}
-use Rattle.crb_history.specs.Replies.{exchange}
-use Rattle.crb_history.specs.OneHost.{one_told}
+use Rattle.vt_transcript.specs.Replies.{exchange}
+use Rattle.vt_transcript.specs.OneHost.{one_of_transcript}
 use Rattle.script_run.specs.Saved.{suspended}
 use Rattle.script_run.specs.Start.{start}
 use Rattle.script_run.proofs.Endings.{leaves-nothing, leaves-bad, nothing-written}
@@ -23,7 +23,7 @@ returns-in_default-plain_line g c = record {
       leaves-bad (suspended c.args.script.now) _ _ _ (length done.0) [] [] c.requires (suspends-gives c.args.script.now c.loop-text.lines.rest done.0 done.1 c.loop-text.world done.2)
       (nothing-written _ _ (rw c.loop-text.invariant.untouched refl)) _ c.bad_line.result
       (suspends-bad c.args.script.now c.loop-text.lines.rest done.0 done.1 c.loop-text.world c.in-Some.text.now c.next.new.self.rest done.2 c.in-Some.ensures.line (sym c.plain_line.ensures.line ∙ c.in_default-plain_line.is))
-      (omega (arith, done.3, c.in-Some.ensures.number)) c.bad_line.ensures.tells;
+      (omega (arith, done.3, c.in-Some.ensures.number)) c.bad_line.ensures.says;
 }
 
 pub loop-text-preserved : goal.loop-text-preserved
@@ -34,7 +34,7 @@ loop-text-preserved g c =
         c.in-Some-plain_line.line ∷ done.0,
         exchange c.in-Some-plain_line.line c.guest.result ∷ done.1,
         suspends-more c.args.script.now c.loop-text.lines.rest done.0 done.1 c.loop-text.world c.guest.new.self c.in-Some.text.now c.next.new.self.rest c.in-Some-plain_line.line c.guest.result done.2
-            c.in-Some.ensures.line (sym c.plain_line.ensures.line ∙ c.in-Some-plain_line.is) (c.guest.ensures.at_a done.2.here start (one_told start done.1) done.2.follows) c.guest.ensures.others.running,
+            c.in-Some.ensures.line (sym c.plain_line.ensures.line ∙ c.in-Some-plain_line.is) (c.guest.ensures.at_a done.2.here start (one_of_transcript start done.1) done.2.follows) c.guest.ensures.others.running,
         omega (arith, done.3, c.in-Some.ensures.number),
       );
       untouched = c.loop-text.invariant.untouched;
@@ -48,7 +48,7 @@ loop-text-preserved-in-Some-plain_line g c =
         c.in-Some-plain_line.line ∷ done.0,
         exchange c.in-Some-plain_line.line c.guest.result ∷ done.1,
         suspends-more c.args.script.now c.loop-text.lines.rest done.0 done.1 c.loop-text.world c.guest.new.self c.in-Some.text.now c.next.new.self.rest c.in-Some-plain_line.line c.guest.result done.2
-            c.in-Some.ensures.line (sym c.plain_line.ensures.line ∙ c.in-Some-plain_line.is) (c.guest.ensures.at_a done.2.here start (one_told start done.1) done.2.follows) c.guest.ensures.others.running,
+            c.in-Some.ensures.line (sym c.plain_line.ensures.line ∙ c.in-Some-plain_line.is) (c.guest.ensures.at_a done.2.here start (one_of_transcript start done.1) done.2.follows) c.guest.ensures.others.running,
         omega (arith, done.3, c.in-Some.ensures.number),
       );
       untouched = c.loop-text.invariant.untouched;

@@ -1,6 +1,6 @@
 use Rattle.std.proofs.Common.{◌≡◌, List, length}
 use Rattle.vt_script.specs.declared.event.Event.{Event as Line}
-use Rattle.crb_history.specs.Replies.{Transcript}
+use Rattle.vt_transcript.specs.Replies.{Transcript}
 use Rattle.script_run.specs.Loop.{SuspendsOn}
 use Rattle.script_run.proofs.suspend.suspend.Given as goal
 

@@ -16,8 +16,8 @@ use Rattle.script_run.proofs.top.run.Goals as goal
 pub returns-in-Some-Read-clause-writes_if_promised : goal.returns-in-Some-Read-clause-writes_if_promised
 returns-in-Some-Read-clause-writes_if_promised g c = λ action is.
     let named = subst (λ (task : Task). IsTask task c.args.words.now) c.in-Some-Read.field-0-is c.in-Some-Read.ensures.named in
-    subst (λ (x : Action). IfSome (g.S.Source.left c.args.source.now) (λ (input : List ℕ). c.perform.result.status ≡ WriteFault → IsCramped (reading_of x input) (g.K.Sink.room c.args.sink.now)))
-    (one-action _ c.in-Some-Read.action action named is) c.perform.ensures.writes_if_promised
+    subst (λ (x : Action). IfSome (g.S.Source.left c.args.source.now) (λ (input : List ℕ). c.run_action.result.status ≡ WriteFault → IsCramped (reading_of x input) (g.K.Sink.room c.args.sink.now)))
+    (one-action _ c.in-Some-Read.action action named is) c.run_action.ensures.writes_if_promised
 
 pub returns-in-Some-Bulk-clause-sums_up : goal.returns-in-Some-Bulk-clause-sums_up
 returns-in-Some-Bulk-clause-sums_up g c = λ seed count is.

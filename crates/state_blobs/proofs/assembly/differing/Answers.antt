@@ -1,6 +1,6 @@
 use Rattle.std.proofs.Common.{subst, arith, List, ℕ}
 use Rattle.std.proofs.lemmas.List.{take_rest}
-use Rattle.state_blobs.specs.Texts.{slice}
+use Rattle.state_blobs.specs.Encodings.{slice}
 use Rattle.state_blobs.specs.Refusals.{FirstDiffersAt}
 use Rattle.state_blobs.proofs.Joined.{differs_behind}
 use Rattle.state_blobs.proofs.assembly.differing.Goals as goal

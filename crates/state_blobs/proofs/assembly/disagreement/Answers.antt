@@ -5,15 +5,15 @@ use Rattle.state_blobs.proofs.assembly.disagreement.Goals as goal
 use Rattle.state_blobs.proofs.assembly.disagreement.Goals.{then-not-has_values-via-then-not-has_values, then-not-has_values-via-else-not-has_values+then-not-has_values-2}
 
 pub returns-then-not-has_values-clause-agrees : goal.returns-then-not-has_values-clause-agrees
-returns-then-not-has_values-clause-agrees c v z fit told fit_too told_too on =
+returns-then-not-has_values-clause-agrees c v z fit exact fit_too decoded_too on =
     elim c.then-not-has_values.branch [
       | then-not-has_values-via-then-not-has_values w ↦
           let flag : eqb (get_or c.args.volatile.now 9 0) 1 ≡ false = search rules in
-          let off : v.started ≡ false = sym (started_read v c.args.volatile.now told) ∙ flag in
+          let off : v.started ≡ false = sym (started_read v c.args.volatile.now exact) ∙ flag in
           absurd cc
       | then-not-has_values-via-else-not-has_values+then-not-has_values-2 w ↦
           let flag : eqb (get_or c.args.saved.now 9 0) 1 ≡ false = search rules in
-          none_agrees v z c.args.saved.now flag told_too
+          none_agrees v z c.args.saved.now flag decoded_too
     ]
 
 pub differing-requires-clause-volatile : goal.differing-requires-clause-volatile

@@ -1,5 +1,5 @@
 use Rattle.std.proofs.Common.{sym, subst}
-use Rattle.tpm_core.specs.Steps.{IsFit}
+use Rattle.tpm_core.specs.Steps.{IsValid}
 use Rattle.state_blobs.specs.Assembly.{IsAssembled}
 use Rattle.state_blobs.proofs.Joined.{put_together}
 use Rattle.state_blobs.proofs.assembly.joined.Goals as goal
@@ -13,5 +13,5 @@ pub returns-clause-ok : goal.returns-clause-ok
 returns-clause-ok c =
     let all = put_together c.args.permanent.now c.args.volatile.now c.args.saved.now _ _ _ _ c.parts_with-parts.result c.requires.permanent c.requires.volatile c.requires.saved c.in_default.ensures.agrees
     c.permanent_of-boots.ensures.seed c.permanent_of-boots.ensures.boots c.running_of.ensures c.saved_of.ensures c.parts_with-parts.ensures in
-    let fit : IsFit c.parts_with-parts.result = subst IsFit c.of_parts.ensures.parts c.of_parts.ensures.fit in
+    let fit : IsValid c.parts_with-parts.result = subst IsValid c.of_parts.ensures.parts c.of_parts.ensures.fit in
     subst (IsAssembled c.args.permanent.now c.args.volatile.now c.args.saved.now) (sym c.of_parts.ensures.parts) (all.1 fit)

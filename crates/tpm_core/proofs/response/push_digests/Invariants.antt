@@ -5,6 +5,6 @@ use Rattle.tpm_core.proofs.response.push_digests.Given as goal
 
 abbrev pub invariant-loop-register : goal.invariant-loop-register
 invariant-loop-register l = record {
-  told : l.body ≡ l.fn.body ++ flat_map (digest_read l.parts) (take l.register-index l.registers);
+  exact : l.body ≡ l.fn.body ++ flat_map (digest_read l.parts) (take l.register-index l.registers);
   size : length l.body ≤ length l.fn.body + 66 * l.register-index;
 }

@@ -24,7 +24,7 @@ loop-selection-preserved c = record {
   entries = rw (body_is c) (entries_turn c.loop-selection.body c.loop-selection.all c.append.new.all c.chosen-indices.result c.args.selections.now c.loop-selection.selection-index no_selection c.loop-selection-test.true (mine_is c) (all_is c) ∙ c.loop-selection.invariant.entries);
   registers = registers_turn c.loop-selection.all c.append.new.all c.chosen-indices.result c.args.selections.now c.loop-selection.selection-index no_selection c.loop-selection-test.true (mine_is c) (all_is c) ∙ c.loop-selection.invariant.registers;
   there = subst AreThere (sym (all_is c)) (there_more c.loop-selection.all (here c).algorithm c.chosen-indices.result c.loop-selection.invariant.there c.chosen-indices.ensures.there);
-  few = omega (arith, ap length (all_is c), length-append c.loop-selection.all (registers_of (here c).algorithm c.chosen-indices.result), length-registers_of (here c).algorithm c.chosen-indices.result, ap length (mine_is c), length-take (8 - length c.loop-selection.all) (selected (here c).bits), c.loop-selection.invariant.few);
+  within_limit = omega (arith, ap length (all_is c), length-append c.loop-selection.all (registers_of (here c).algorithm c.chosen-indices.result), length-registers_of (here c).algorithm c.chosen-indices.result, ap length (mine_is c), length-take (8 - length c.loop-selection.all) (selected (here c).bits), c.loop-selection.invariant.within_limit);
   size = omega (arith, c.push_entry.ensures.size, c.loop-selection.invariant.size);
 }
 

@@ -9,6 +9,6 @@ invariant-loop-selection l = record {
   entries : l.body ++ flat_map entry_read (chosen_of (8 - length l.all) (drop l.selection-index l.selections)) ≡ l.fn.body ++ flat_map entry_read (chosen_of 8 l.selections);
   registers : l.all ++ all_registers (chosen_of (8 - length l.all) (drop l.selection-index l.selections)) ≡ all_registers (chosen_of 8 l.selections);
   there : AreThere l.all;
-  few : length l.all ≤ 8;
+  within_limit : length l.all ≤ 8;
   size : length l.body ≡ length l.fn.body + 6 * l.selection-index;
 }

@@ -5,6 +5,6 @@ use Rattle.tpm_core.proofs.selected.chosen.Given as goal
 
 abbrev pub invariant-loop-i : goal.invariant-loop-i
 invariant-loop-i l = record {
-  told : l.indices ≡ chosen_below l.bits l.room l.i;
+  exact : l.indices ≡ chosen_below l.bits l.room l.i;
   there : All (λ k. k < 24) l.indices;
 }

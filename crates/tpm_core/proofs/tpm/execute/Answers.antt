@@ -7,28 +7,28 @@ use Rattle.tpm_core.proofs.Law.{values_after-more, answer-more}
 use Rattle.tpm_core.proofs.Replies.{answer_is_response}
 use Rattle.tpm_core.proofs.tpm.execute.Goals as goal
 
-pub perform-requires : goal.perform-requires
-perform-requires c = in_reach c.args.parts.now.started c.is_some.result c.args.command.now c.in-Ok.command c.in-Ok.ensures
+pub execute_command-requires : goal.execute_command-requires
+execute_command-requires c = in_reach c.args.parts.now.started c.is_some.result c.args.command.now c.in-Ok.command c.in-Ok.ensures
 
 values-ok : goal.returns-in-Ok-clause-values
 values-ok c =
     let e = read_is c.args.parts.now c.args.command.now c.is_some.result (Ok c.in-Ok.command) c.is_some.ensures c.in-Ok.ensures in
-    executed_is c.args.parts.now c.perform.new.parts c.args.command.now (Ok c.in-Ok.command) c.requires e c.perform.ensures.values
+    executed_is c.args.parts.now c.execute_command.new.parts c.args.command.now (Ok c.in-Ok.command) c.requires e c.execute_command.ensures.values
 
 pub returns-in-Ok-clause-values : goal.returns-in-Ok-clause-values
 returns-in-Ok-clause-values c = values-ok c
 
 pub returns-in-Ok-clause-fit : goal.returns-in-Ok-clause-fit
-returns-in-Ok-clause-fit c = stays_fit c.args.parts.now c.perform.new.parts c.args.command.now c.requires (values-ok c)
+returns-in-Ok-clause-fit c = stays_fit c.args.parts.now c.execute_command.new.parts c.args.command.now c.requires (values-ok c)
 
-answer-ok : (c : goal.After-perform) → reply_to c.args.parts.now (Ok c.in-Ok.command) ≡ answer c.args.parts.now [] c.args.command.now
+answer-ok : (c : goal.After-execute_command) → reply_to c.args.parts.now (Ok c.in-Ok.command) ≡ answer c.args.parts.now [] c.args.command.now
 answer-ok c = answer_is c.args.parts.now c.args.command.now (Ok c.in-Ok.command) c.requires (read_is c.args.parts.now c.args.command.now c.is_some.result (Ok c.in-Ok.command) c.is_some.ensures c.in-Ok.ensures)
 
 pub returns-in-Ok-clause-size : goal.returns-in-Ok-clause-size
-returns-in-Ok-clause-size c = c.perform.ensures.size ∙ ap length (answer-ok c)
+returns-in-Ok-clause-size c = c.execute_command.ensures.size ∙ ap length (answer-ok c)
 
 pub returns-in-Ok-clause-response : goal.returns-in-Ok-clause-response
-returns-in-Ok-clause-response c = c.perform.ensures.bytes ∙ ap followed_by_zeros (answer-ok c)
+returns-in-Ok-clause-response c = c.execute_command.ensures.bytes ∙ ap followed_by_zeros (answer-ok c)
 
 read-err : (c : goal.After-write_short) → Err c.in-Err.refusal ≡ read_by c.args.parts.now c.args.command.now
 read-err c = read_is c.args.parts.now c.args.command.now c.is_some.result (Err c.in-Err.refusal) c.is_some.ensures c.in-Err.ensures
@@ -49,13 +49,13 @@ pub returns-in-Err-clause-response : goal.returns-in-Err-clause-response
 returns-in-Err-clause-response c = c.write_short.ensures.response ∙ ap followed_by_zeros (answer-err c)
 
 pub returns-in-Ok-clause-values_past : goal.returns-in-Ok-clause-values_past
-returns-in-Ok-clause-values_past c = λ b past fit here. values_after-more c.args.parts.now c.perform.new.parts b past (Executed c.args.command.now) fit here (values-ok c)
+returns-in-Ok-clause-values_past c = λ b past fit here. values_after-more c.args.parts.now c.execute_command.new.parts b past (Executed c.args.command.now) fit here (values-ok c)
 
 pub returns-in-Ok-clause-size_past : goal.returns-in-Ok-clause-size_past
-returns-in-Ok-clause-size_past c = λ b past fit here. c.perform.ensures.size ∙ ap length (answer-ok c ∙ answer-more c.args.parts.now b past c.args.command.now fit here)
+returns-in-Ok-clause-size_past c = λ b past fit here. c.execute_command.ensures.size ∙ ap length (answer-ok c ∙ answer-more c.args.parts.now b past c.args.command.now fit here)
 
 pub returns-in-Ok-clause-response_past : goal.returns-in-Ok-clause-response_past
-returns-in-Ok-clause-response_past c = λ b past fit here. c.perform.ensures.bytes ∙ ap followed_by_zeros (answer-ok c ∙ answer-more c.args.parts.now b past c.args.command.now fit here)
+returns-in-Ok-clause-response_past c = λ b past fit here. c.execute_command.ensures.bytes ∙ ap followed_by_zeros (answer-ok c ∙ answer-more c.args.parts.now b past c.args.command.now fit here)
 
 pub returns-in-Ok-clause-is_response : goal.returns-in-Ok-clause-is_response
 returns-in-Ok-clause-is_response c = answer_is_response c.args.parts.now [] c.args.command.now c.requires

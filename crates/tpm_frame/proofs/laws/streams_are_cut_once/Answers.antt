@@ -6,4 +6,4 @@ pub returns-clause-grows : goal.returns-clause-grows
 returns-clause-grows c = cut_more
 
 pub returns-clause-once : goal.returns-clause-once
-returns-clause-once c = one_cut (λ a b x y p q same. (c.ends_are_told_apart.ensures.apart frames tt tt a b x y p q same).1)
+returns-clause-once c = one_cut (λ a b x y p q same. (c.encodings_are_prefix_free.ensures.apart frames tt tt a b x y p q same).1)

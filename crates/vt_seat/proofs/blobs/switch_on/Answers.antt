@@ -1,5 +1,5 @@
 use Rattle.std.proofs.Common.{◌∙◌, ap}
-use Rattle.vt_base.specs.declared.words.Kind.TheVariants.{Volatile, Saved}
+use Rattle.vt_base.specs.declared.types.Kind.TheVariants.{Volatile, Saved}
 use Rattle.vt_seat.specs.Blobs.{given_blob}
 use Rattle.vt_seat.proofs.Pieces.{switches}
 use Rattle.vt_seat.proofs.blobs.switch_on.Goals as goal
@@ -10,8 +10,8 @@ unreachable-requires c =
     let t = c.args.tpm.now in
     let blobs = laws.blobs t c.requires.fit in
     let link = c.put_blob-3.ensures.link ∙ ap (given_blob Saved t) (c.put_blob-2.ensures.link ∙ ap (given_blob Volatile t) c.put_blob.ensures.link) in
-    let switched = switches t c.requires.fresh.0 c.args.wires.now c.put_blob-3.new.wires.link c.init.new.wires.link c.put_blob-3.new.wires.due c.init.new.wires.due c.init.result
-    (record { once = λ a is. laws.once _ _ _ a t is blobs; no_fault = λ fault is. laws.not_both _ _ _ t fault blobs is }) c.requires.fresh.1 link c.put_blob-3.ensures.due c.init.ensures.told in
+    let switched = switches t c.requires.fresh.0 c.args.wires.now c.put_blob-3.new.wires.link c.init.new.wires.link c.put_blob-3.new.wires.calls_to_fault c.init.new.wires.calls_to_fault c.init.result
+    (record { once = λ a is. laws.once _ _ _ a t is blobs; no_fault = λ fault is. laws.not_both _ _ _ t fault blobs is }) c.requires.fresh.1 link c.put_blob-3.ensures.calls_to_fault c.init.ensures.exact in
     c.in_default.not-Ok tt switched.answer_is
 
 pub returns-clause-link : goal.returns-clause-link
@@ -20,5 +20,5 @@ returns-clause-link c = λ piece fresh.
     let t = c.args.tpm.now in
     let blobs = laws.blobs t c.requires.fit in
     let link = c.put_blob-3.ensures.link ∙ ap (given_blob Saved t) (c.put_blob-2.ensures.link ∙ ap (given_blob Volatile t) c.put_blob.ensures.link) in
-    (switches t piece c.args.wires.now c.put_blob-3.new.wires.link c.init.new.wires.link c.put_blob-3.new.wires.due c.init.new.wires.due c.init.result
-    (record { once = λ a is. laws.once _ _ _ a t is blobs; no_fault = λ fault is. laws.not_both _ _ _ t fault blobs is }) fresh link c.put_blob-3.ensures.due c.init.ensures.told).link
+    (switches t piece c.args.wires.now c.put_blob-3.new.wires.link c.init.new.wires.link c.put_blob-3.new.wires.calls_to_fault c.init.new.wires.calls_to_fault c.init.result
+    (record { once = λ a is. laws.once _ _ _ a t is blobs; no_fault = λ fault is. laws.not_both _ _ _ t fault blobs is }) fresh link c.put_blob-3.ensures.calls_to_fault c.init.ensures.exact).link

@@ -1,5 +1,5 @@
 use Rattle.std.proofs.Common.{◌≡◌, ◌≢◌, ◌∙◌, ap, arith}
-use Rattle.crb_port.specs.declared.job.Standing.{Standing}
+use Rattle.crb_port.specs.declared.job.PortState.{PortState}
 use Rattle.move_core.specs.Model.{HostModel}
 use Rattle.vt_seat.specs.Wires.{WiresState}
 use Rattle.vt_seat.specs.Seats.{world_of}
@@ -36,6 +36,6 @@ returns-then-offset-eq-CTRL_START-clause-keeps c =
     let p = c.requires.ready.1 in
     let middle = read-after b p (world_of c.args.seat.now) (world_of c.access.new.self) c.args.a.now c.in-Value.value c.in-Value.size (c.in-Value.ensures.steps b) c.requires.ready.2 in
     record {
-      host = c.work.ensures.others ∙ ap (λ (h : HostModel Standing). record h { device = c.work.new.self.host.device }) c.access.ensures.others;
-      piece = c.work.ensures.piece b middle.host middle.follows ∙ ap (λ (w : WiresState). w.link.desk.piece) c.access.ensures.wires;
+      host = c.work.ensures.others ∙ ap (λ (h : HostModel PortState). record h { device = c.work.new.self.host.device }) c.access.ensures.others;
+      piece = c.work.ensures.piece b middle.host middle.follows ∙ ap (λ (w : WiresState). w.link.emulator.piece) c.access.ensures.wires;
     }

@@ -8,7 +8,7 @@ returns c =
       stopped = c.stopped_devices_go_on.ensures.stopped;
       goes_on = c.stopped_devices_go_on.ensures.goes_on;
       same = c.stopped_devices_go_on.ensures.same;
-      told = c.held_devices_go_on.ensures.device;
+      exact = c.held_devices_go_on.ensures.device;
       rests = c.guests_go_on.ensures.rests;
       follows = c.guests_go_on.ensures.goes_on;
     } in

@@ -1,5 +1,5 @@
 use Rattle.std.proofs.Common.{◌≡◌, ◌++◌, length, take}
-use Rattle.move_codec.proofs.Told.{fed_whole, fed_bad, fed_more}
+use Rattle.move_codec.proofs.Decoding.{fed_whole, fed_bad, fed_more}
 use Rattle.move_codec.proofs.reader.Reader.feed.Goals as goal
 
 pub returns-clause-whole : goal.returns-clause-whole

@@ -18,14 +18,14 @@ use Rattle.move_core.proofs.parts.HostParts.load.Goals as goal
 
 pub returns-in-Ok-clause-row : goal.returns-in-Ok-clause-row
 returns-in-Ok-clause-row g c =
-    let known = g.P.Meanings.known in
+    let port_view = g.P.PortModel.port_view in
     let e = c.load_record.new.device in
     let old = model_of c.args.self.now in
-    let is = restored_is known old.device e c.in-Ok.ensures.sound c.requires.held c.in-Ok.ensures.held c.in-Ok.ensures.port in
-    let made = subst (λ (next : Option Part). EndsIn known (goes_to (record old { device = e }) c.args.epoch c.args.totals next) c.go_to.result (model_of c.go_to.new.self)) c.part_after.ensures c.go_to.ensures.made in (
+    let is = restored_is port_view old.device e c.in-Ok.ensures.consistent c.requires.held c.in-Ok.ensures.held c.in-Ok.ensures.port in
+    let made = subst (λ (next : Option Part). EndsIn port_view (goes_to (record old { device = e }) c.args.epoch c.args.totals next) c.go_to.result (model_of c.go_to.new.self)) c.part_after.ensures c.go_to.ensures.made in (
       Ok (held_values e),
       subst (λ (bytes : List ℕ). IsRecord bytes (held_values e)) c.bytes.ensures.value c.in-Ok.ensures.ok,
-      subst (λ (d : DeviceModel g.row.P.Denot). EndsIn known (goes_to (record old { device = d }) c.args.epoch c.args.totals (part_after part.Record)) c.go_to.result (model_of c.go_to.new.self)) (sym is) made,
+      subst (λ (d : DeviceModel g.row.P.Denot). EndsIn port_view (goes_to (record old { device = d }) c.args.epoch c.args.totals (part_after part.Record)) c.go_to.result (model_of c.go_to.new.self)) (sym is) made,
     )
 
 pub returns-in-Err-clause-row : goal.returns-in-Err-clause-row

@@ -14,5 +14,5 @@ at_end bytes left place n room is least none some = grind (arith, common_steps)
 pub returns-clause-bytes : goal.returns-clause-bytes
 returns-clause-bytes c =
     let left = c.split_at.ensures.back ∙ ap (drop c.self.inside.place) c.as_slice.ensures.value in
-    let copied = c.copy_front-count.ensures in
-    (ap (λ s. s.left) (sym c.self.view_is) ∙ given _ _ _ _ _ left copied.front, λ none some. at_end _ _ _ _ _ left copied.count none (omega (arith, some, copied.length)))
+    let copied = c.copy_prefix-count.ensures in
+    (ap (λ s. s.left) (sym c.self.view_is) ∙ given _ _ _ _ _ left copied.prefix, λ none some. at_end _ _ _ _ _ left copied.count none (omega (arith, some, copied.length)))

@@ -1,12 +1,12 @@
 use Rattle.std.proofs.Common.{rules, ◌≡◌, [], Some, length, refl, ap, sym, subst, ◌∙◌}
 use Rattle.tpm_core.specs.Fresh.{manufactured}
 use Rattle.ctrl_client.specs.Exchange.{IsQuiet}
-use Rattle.crb_port.specs.declared.job.Standing.{Standing}
+use Rattle.crb_port.specs.declared.job.PortState.{PortState}
 use Rattle.crb_worker.specs.declared.progress.Progress.TheVariants.{Free}
-use Rattle.crb_history.specs.Base.{fresh}
+use Rattle.crb_history.specs.Snapshot.{fresh}
 use Rattle.move_core.specs.Model.{HostModel}
 use Rattle.vt_seat.specs.Wires.{fresh_wires, wires_to}
-use Rattle.vt_seat.specs.Follows.{Follows}
+use Rattle.vt_seat.specs.Follows.{Refines}
 use Rattle.vt_seat.specs.Seats.{new_seat, world_of}
 use Rattle.vt_seat.specs.State.{SeatState}
 use Rattle.vt_seat.proofs.Counted.{follows_any}
@@ -19,21 +19,21 @@ pub returns-clause-follows : goal.returns-clause-follows
 returns-clause-follows c =
     let whole : length c.args.seed ≡ 32 = search rules in
     let quiet : IsQuiet (fresh_wires (Some (manufactured c.args.seed)) c.args.piece).link = record { nothing = refl; listens = refl } in
-    let device = the_same _ _ c.in_ok-device.ensures.told in
-    let here = follows_any (fresh c.args.seed) _ _ _ _ _ 0 _ (new-follows c.args.seed c.args.piece c.in_ok-device.device Free c.init.new.wires.link c.init.new.wires.due c.init.result whole device refl ((rw (c.in_ok-wires.ensures.wires ∙ ap wires_to c.in_ok-emulator.ensures) at c.init.ensures.told) quiet)) in
-    subst (λ (s : SeatState Standing). Follows (fresh c.args.seed) [] (world_of s)) (sym c.new-seat.ensures.seat)
-    (subst (λ (h : HostModel Standing). Follows (fresh c.args.seed) [] (world_of (new_seat h c.init.new.wires))) (sym c.in_ok-host.ensures.made) here)
+    let device = the_same _ _ c.in_ok-device.ensures.exact in
+    let here = follows_any (fresh c.args.seed) _ _ _ _ _ 0 _ (new-follows c.args.seed c.args.piece c.in_ok-device.device Free c.init.new.wires.link c.init.new.wires.calls_to_fault c.init.result whole device refl ((rw (c.in_ok-wires.ensures.wires ∙ ap wires_to c.in_ok-emulator.ensures) at c.init.ensures.exact) quiet)) in
+    subst (λ (s : SeatState PortState). Refines (fresh c.args.seed) [] (world_of s)) (sym c.new-seat.ensures.seat)
+    (subst (λ (h : HostModel PortState). Refines (fresh c.args.seed) [] (world_of (new_seat h c.init.new.wires))) (sym c.in_ok-host.ensures.made) here)
 
 pub returns-clause-made : goal.returns-clause-made
 returns-clause-made c =
     let quiet : IsQuiet (fresh_wires (Some (manufactured c.args.seed)) c.args.piece).link = record { nothing = refl; listens = refl } in
-    let host = ap (λ (s : SeatState Standing). s.host) c.new-seat.ensures.seat ∙ c.in_ok-host.ensures.made in
+    let host = ap (λ (s : SeatState PortState). s.host) c.new-seat.ensures.seat ∙ c.in_ok-host.ensures.made in
     record {
-      name_is = ap (λ (h : HostModel Standing). h.name) host;
-      runs = ap (λ (h : HostModel Standing). h.stage) host;
-      top = ap (λ (h : HostModel Standing). h.top) host;
-      record_piece = ap (λ (h : HostModel Standing). h.piece) host;
-      blob_piece = ap (λ (s : SeatState Standing). s.link.desk.piece) c.new-seat.ensures.seat
-          ∙ commands_piece _ _ _ [] (fresh_wires (Some (manufactured c.args.seed)) c.args.piece).link c.init.new.wires.link _ _ c.init.new.wires.due tt ((rw (c.in_ok-wires.ensures.wires ∙ ap wires_to c.in_ok-emulator.ensures) at c.init.ensures.told) quiet);
-      free = ap (λ (s : SeatState Standing). s.progress) c.new-seat.ensures.seat;
+      name_is = ap (λ (h : HostModel PortState). h.name) host;
+      runs = ap (λ (h : HostModel PortState). h.stage) host;
+      top = ap (λ (h : HostModel PortState). h.top) host;
+      record_piece = ap (λ (h : HostModel PortState). h.piece) host;
+      blob_piece = ap (λ (s : SeatState PortState). s.link.emulator.piece) c.new-seat.ensures.seat
+          ∙ commands_piece _ _ _ [] (fresh_wires (Some (manufactured c.args.seed)) c.args.piece).link c.init.new.wires.link _ _ c.init.new.wires.calls_to_fault tt ((rw (c.in_ok-wires.ensures.wires ∙ ap wires_to c.in_ok-emulator.ensures) at c.init.ensures.exact) quiet);
+      free = ap (λ (s : SeatState PortState). s.progress) c.new-seat.ensures.seat;
     }

@@ -1,5 +1,5 @@
 use Rattle.std.proofs.Common.{◌≡◌, sym, subst, ap, ◌∙◌, Some}
-use Rattle.move_codec.specs.declared.names.HostName.TheVariants.{A, B}
+use Rattle.vt_base.specs.declared.types.HostName.TheVariants.{A, B}
 use Rattle.two_seats.specs.Both.{TwoSeats, FollowsBoth, CountsBoth, one_of, running_of}
 use Rattle.two_seats.proofs.Counting.{guest_counts}
 use Rattle.two_seats.proofs.Lines.{guest_steps, stopped_steps, follows_one, runs_here}

@@ -1,5 +1,5 @@
 use Rattle.std.proofs.Common.{subst}
-use Rattle.move_codec.specs.declared.names.HostName.TheVariants.{A}
+use Rattle.vt_base.specs.declared.types.HostName.TheVariants.{A}
 use Rattle.vt_seat.specs.Saving.{Loads, IsLoaded}
 use Rattle.two_seats.proofs.Beginning.{both_first}
 use Rattle.vt_world.proofs.world.World.load.Goals as goal

@@ -1,4 +1,4 @@
-use Rattle.crb_history.specs.Base.{fresh}
+use Rattle.crb_history.specs.Snapshot.{fresh}
 use Rattle.two_seats.proofs.Beginning.{both_first, fresh_fit}
 use Rattle.vt_world.proofs.Pairs.{ready_first}
 use Rattle.vt_world.proofs.world.World.new.Goals as goal

@@ -1,6 +1,0 @@
-use Rattle.std.proofs.Common.{sym, ◌∙◌, arith, rules}
-use Rattle.state_blobs.proofs.Bodies.{draws_byte}
-use Rattle.state_blobs.proofs.text.volatile_byte.Goals as goal
-
-pub returns-then-i-le-DRAWS_SIZE : goal.returns-then-i-le-DRAWS_SIZE
-returns-then-i-le-DRAWS_SIZE c = c.long_byte.ensures ∙ sym (draws_byte c.args.parts.now c.args.i (search rules) (omega arith) (omega arith))

@@ -1,8 +1,0 @@
-use Rattle.std.proofs.Common.{length, ap, ◌∙◌}
-use Rattle.std.specs.Prelude.{◌==◌}
-use Rattle.ctrl_client.specs.Desk.{is_nil}
-use Rattle.vt_seat.proofs.Waits.{none_left}
-use Rattle.vt_seat.proofs.waiting.Replies.is_empty.Goals as goal
-
-pub returns : goal.returns
-returns c = ap (λ n. c.self.inside.from == n) (ap length c.bytes.ensures.bytes) ∙ none_left c.self.inside.from c.self.inside.out c.self.invariant ∙ ap is_nil c.self.view_is

@@ -1,0 +1,4 @@
+pub mod WithoutFault
+mod Unlost
+mod Rejoining
+mod Ending

@@ -1,0 +1,4 @@
+pub mod Replies
+pub mod OneHost
+pub mod Plain
+pub mod Endings
