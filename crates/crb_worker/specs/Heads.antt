@@ -3,7 +3,8 @@
 use Rattle.std.specs.Prelude.{Bool, ◌&&◌, nat_le, ℕ, List}
 use Rattle.std.specs.Str.{bytes_eq}
 use Rattle.std.specs.Int.{w16}
-use Rattle.tpm_frame.specs.Frame.{big_endian_at, short, is_response_tag}
+use Rattle.tpm_frame.specs.Frame.{short, is_response_tag}
+use Rattle.vt_base.specs.Numbers.{big_endian_at}
 use Rattle.tpm_frame.specs.Sizes.{named_size}
 use Rattle.crb_worker.specs.Numbers.{header_size, largest_response, canceled}
 

@@ -1,15 +1,17 @@
 //! Responses as they come off the wires.
 ghost use Rattle.std.specs.Prelude.{◌≡◌, ◌<◌, length, true, false, IfOk, OnOk, OnErr};
 ghost use Rattle.std.specs.Int.{w16};
-ghost use Rattle.tpm_frame.specs.Frame.{big_endian_at};
+ghost use Rattle.vt_base.specs.Numbers.{big_endian_at};
 ghost use Rattle.tpm_frame.specs.Sizes.{named_size};
 ghost use Rattle.crb_worker.specs.Heads.{is_head as IsHead, is_cancelled};
 ghost use Rattle.crb_worker.specs.Wires.{Receives, AreNext, worker_wires};
 ghost use Rattle.crb_worker.specs.Steps.{HoldsResponse, is_longer, left_of};
 
 use ctrl_client::{Wires, receive_exact};
-use tpm_frame::{CANCELED, HEADER_SIZE, LARGEST_FRAME, NO_SESSIONS, RSP_COMMAND, SESSIONS};
-use vt_base::{Buf, ByteBuf, Chan, Failed};
+use tpm_frame::{
+    CANCELED, HEADER_SIZE, LARGEST_FRAME, NO_SESSIONS, RSP_COMMAND, SESSIONS, SIZE_FIELD,
+};
+use vt_base::{Buf, ByteBuf, Chan, Failed, u16_at, u32_at};
 
 /// How many bytes of a response follow its header at most.
 const LONGEST_REST: usize = LARGEST_FRAME - HEADER_SIZE;
@@ -18,14 +20,14 @@ const LONGEST_REST: usize = LARGEST_FRAME - HEADER_SIZE;
 fn tag_of(head: &[u8; HEADER_SIZE]) -> u16
     ensures { result ≡ big_endian_at w16 0 head.now }
 {
-    u16::from_be_bytes([head[0], head[1]])
+    u16_at(head, 0)
 }
 
 // The size of the response in its header.
 fn size_of(head: &[u8; HEADER_SIZE]) -> usize
     ensures { result ≡ named_size head.now }
 {
-    u32::from_be_bytes([head[2], head[3], head[4], head[5]]) as usize
+    u32_at(head, SIZE_FIELD) as usize
 }
 
 /// Whether the ten bytes are the header of a response.

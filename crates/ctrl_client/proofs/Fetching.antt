@@ -5,10 +5,9 @@ use Rattle.std.specs.Int.{w32}
 use Rattle.std.proofs.lemmas.Bool.Decides.{nat_tests}
 use Rattle.std.proofs.lemmas.Nat.{from_be_bytes-to_be_bytes_4}
 use Rattle.std.proofs.lemmas.List.{take_all, drop_all, length-take, length-drop}
-use Rattle.vt_base.specs.Numbers.{number}
+use Rattle.vt_base.specs.Numbers.{number, big_endian_at}
 use Rattle.vt_base.specs.declared.types.Chan.TheVariants.{Ctrl}
 use Rattle.vt_base.specs.declared.types.Kind.{Kind}
-use Rattle.tpm_frame.specs.Frame.{big_endian_at}
 use Rattle.tpm_core.specs.declared.parts.TpmParts.{TpmParts}
 use Rattle.state_blobs.specs.Encodings.{encode_blob, slice}
 use Rattle.state_blobs.specs.declared.types.Piece.{Piece}

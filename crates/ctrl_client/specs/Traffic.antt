@@ -3,7 +3,7 @@ use Rattle.std.specs.Prelude.{◌≡◌, ℕ, ◌<◌, ◌==◌, true, if◌then
 use Rattle.std.specs.Int.{w32, from_be_bytes}
 use Rattle.vt_base.specs.declared.types.Chan.{Chan}
 use Rattle.vt_base.specs.declared.types.Chan.TheVariants.{Ctrl}
-use Rattle.tpm_frame.specs.Frame.{big_endian_at}
+use Rattle.vt_base.specs.Numbers.{big_endian_at}
 use Rattle.state_blobs.specs.declared.types.Piece.{Piece}
 use Rattle.ctrl_codec.specs.declared.request.Request.{Request}
 use Rattle.ctrl_codec.specs.Requests.{encode_request}

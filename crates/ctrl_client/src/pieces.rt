@@ -1,6 +1,6 @@
 //! A piece of a blob, and the size of the buffer.
 ghost use Rattle.std.specs.Prelude.{◌≡◌, ◌≢◌, ◌≤◌, ℕ, length, take, drop, nat_lt, if◌then◌else◌, Err, IfOk, IfErr, IfSome, OnOk, OnErr, option_map};
-ghost use Rattle.tpm_frame.specs.Frame.{big_endian_at};
+ghost use Rattle.vt_base.specs.Numbers.{big_endian_at};
 ghost use Rattle.std.specs.Int.{w32};
 ghost use Rattle.ctrl_model.specs.Emulator.{type_of};
 ghost use Rattle.ctrl_model.specs.Link.{empty_channel, receivable, cut};
@@ -17,8 +17,7 @@ use ctrl_codec::Request;
 use ctrl_model::{FLAGS_PLACE, LENGTH_PLACE, SUCCESS, TOTAL_PLACE};
 use state_blobs::Piece;
 use std::marker::Model;
-use tpm_frame::u32_at;
-use vt_base::{Chan, Kind};
+use vt_base::{Chan, Kind, u32_at};
 
 // The fixed fields of a reply to GET_STATEBLOB.
 #[derive(Drop)]

@@ -21,7 +21,7 @@ use Rattle.ctrl_client.specs.Exchange.{IsQuiet, Commands}
 use Rattle.ctrl_client.specs.Pieces.{HasField, encode_blob_if_any}
 use Rattle.move_codec.specs.declared.names.Part.{Part}
 use Rattle.move_codec.specs.declared.names.Part.TheVariants.{Record, Permanent, Volatile, Saved}
-use Rattle.move_codec.specs.declared.names.Reason.TheVariants as reason
+use Rattle.vt_base.specs.declared.types.Reason.TheVariants as reason
 use Rattle.move_codec.specs.declared.message.Message.{Message}
 use Rattle.move_codec.specs.declared.message.Body.{Body}
 use Rattle.move_codec.specs.declared.message.Body.TheVariants as body

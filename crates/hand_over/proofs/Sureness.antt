@@ -21,7 +21,7 @@ use Rattle.ctrl_model.specs.Link.{Link}
 use Rattle.ctrl_client.specs.Exchange.{IsQuiet}
 use Rattle.move_codec.specs.declared.message.Body.{Body}
 use Rattle.move_codec.specs.declared.message.Body.TheVariants as body
-use Rattle.move_codec.specs.declared.names.Reason.TheVariants as reason
+use Rattle.vt_base.specs.declared.types.Reason.TheVariants as reason
 use Rattle.move_codec.specs.declared.names.Part.{Part}
 use Rattle.move_codec.specs.declared.names.Part.TheVariants.{Record, Permanent, Volatile, Saved}
 use Rattle.move_core.specs.declared.answers.Delivered.{Delivered}

@@ -64,7 +64,7 @@ fn carry_on<P: Port, W: Wires>(
 ///
 /// Message `lost` of these is lost, where it is given. A source that still offers then gives up, and its Abort is
 /// delivered. Otherwise the target says again that it is prepared, and the move ends with the guest there. After
-/// `AllocError`, which only a piece of a blob gives, the source has given up in the same way.
+/// `AllocError`, which only a Need gives, the source has given up in the same way.
 pub fn move_guest<P: Port, W: Wires>(
     alloc: Global,
     source: &mut Host<P>,

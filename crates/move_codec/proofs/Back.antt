@@ -15,7 +15,7 @@ use Rattle.move_codec.specs.declared.message.Body.{Body}
 use Rattle.move_codec.specs.declared.message.Body.TheVariants.{Offer, Need, Piece, Prepared, Commit, Abort, Refuse}
 use Rattle.vt_base.specs.declared.types.HostName.{HostName}
 use Rattle.move_codec.specs.declared.names.Part.{Part}
-use Rattle.move_codec.specs.declared.names.Reason.{Reason}
+use Rattle.vt_base.specs.declared.types.Reason.{Reason}
 use Rattle.move_codec.specs.declared.names.Kind.{Kind}
 use Rattle.move_codec.specs.declared.names.Kind.TheVariants as kind
 use Rattle.move_codec.specs.declared.outline.Shape.{Shape}

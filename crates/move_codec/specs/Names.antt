@@ -4,8 +4,8 @@ use Rattle.vt_base.specs.declared.types.HostName.{HostName}
 use Rattle.vt_base.specs.declared.types.HostName.TheVariants.{A, B}
 use Rattle.move_codec.specs.declared.names.Part.{Part}
 use Rattle.move_codec.specs.declared.names.Part.TheVariants as part
-use Rattle.move_codec.specs.declared.names.Reason.{Reason}
-use Rattle.move_codec.specs.declared.names.Reason.TheVariants as reason
+use Rattle.vt_base.specs.declared.types.Reason.{Reason}
+use Rattle.vt_base.specs.declared.types.Reason.TheVariants as reason
 use Rattle.move_codec.specs.declared.names.Kind.{Kind}
 use Rattle.move_codec.specs.declared.names.Kind.TheVariants.{Offer, Need, Piece, Prepared, Commit, Abort, Refuse}
 

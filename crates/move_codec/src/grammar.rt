@@ -8,11 +8,11 @@ use crate::format::{
     BARE_LENGTH, BODY_PLACE, COUNT_PLACE, KIND_PLACE, LARGEST_LENGTH, LARGEST_PIECE, LENGTH_PLACE,
     MAGIC, PIECE_LENGTH, RECEIVER_PLACE, VERSION, VERSION_PLACE,
 };
-use crate::names::{Kind, Part, Reason, host_from_byte};
+use crate::names::{Kind, Named, Part};
 use crate::outline::{Outline, Shape};
 use vt_base::{
-    Grammar, HostName, Malformed, Missing, Parsed, Why, behind_magic, byte_of, field_of, long_of,
-    number_of, refused, short_of,
+    Grammar, HostName, Malformed, Missing, Parsed, Reason, Why, behind_magic, byte_of, field_of,
+    long_of, number_of, refused, short_of,
 };
 
 /// The grammar of migration messages.
@@ -93,7 +93,7 @@ fn receiver_of(kind: Kind, length: u32, rest: &[u8]) -> Parsed<Outline>
     ensures { result ≡ parsed (receiver kind length) rest.now }
 {
     let (to, rest) = byte_of(rest)?;
-    let Some(to) = host_from_byte(to) else {
+    let Some(to) = HostName::from_byte(to) else {
         return refused(Why::Value, RECEIVER_PLACE);
     };
     let (epoch, rest) = long_of(rest)?;

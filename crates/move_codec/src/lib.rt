@@ -28,6 +28,6 @@ mod writing;
 pub use format::LARGEST_PIECE;
 pub use laws::{messages_are_in_range, messages_are_prefix_free, streams_are_read_once};
 pub use message::{Body, Message};
-pub use names::{Part, Reason};
+pub use names::Part;
 pub use reader::{FedMessage, Reader};
 pub use writing::write_message;

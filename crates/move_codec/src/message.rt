@@ -2,8 +2,8 @@
 ghost use Rattle.std.specs.Prelude.{◌≡◌};
 ghost use Rattle.move_codec.specs.Encoding.{kind_of};
 
-use crate::names::{Kind, Part, Reason};
-use vt_base::{Bytes, HostName};
+use crate::names::{Kind, Part};
+use vt_base::{Bytes, HostName, Reason};
 
 /// What a message says.
 #[derive(Debug, Drop)]

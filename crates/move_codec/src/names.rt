@@ -1,38 +1,46 @@
 // Names that stand in a message as one byte. The number of each is written at its name.
-ghost use Rattle.std.specs.Prelude.{◌≡◌, ℕ};
+ghost use Rattle.std.specs.Prelude.{◌≡◌, ℕ, List};
 ghost use Rattle.move_codec.specs.Names.{named, host_byte, hosts, part_byte, parts, reason_byte, reasons, kind_byte, kinds, fits};
 
 use crate::format::{BARE_LENGTH, OFFER_LENGTH, PIECE_LENGTH, SHORT_LENGTH};
-use vt_base::HostName;
+use vt_base::{HostName, Reason};
 
 /// A name that stands in a message as one byte.
-pub(crate) trait Named: Copy {
+pub(crate) trait Named: Copy + 'static {
     ghost byte: { Self → ℕ };
+
+    ghost all: { List Self };
+
+    /// All names of this type.
+    fn all() -> &'static [Self]
+        ensures names { result.now ≡ all };
 
     fn to_byte(self) -> u8
         ensures value { result ≡ byte self };
-}
 
-/// The one of these names that has this byte.
-fn name_of<T: Named>(names: &[T], byte: u8) -> Option<T>
-    ensures found { result ≡ named T.byte names.now byte }
-{
-    names.iter().copied().find(|name| name.to_byte() == byte)
+    /// The name that has this byte, if there is one.
+    fn from_byte(number: u8) -> Option<Self>
+        ensures found { result ≡ named byte all number }
+    {
+        Self::all()
+            .iter()
+            .copied()
+            .find(|name| name.to_byte() == number)
+    }
 }
 
 impl Named for HostName {
     ghost byte = { host_byte };
 
+    ghost all = { hosts };
+
+    fn all() -> &'static [Self] {
+        &[HostName::A, HostName::B]
+    }
+
     fn to_byte(self) -> u8 {
         self as u8
     }
-}
-
-/// The host that has this byte.
-pub(crate) fn host_from_byte(byte: u8) -> Option<HostName>
-    ensures found { result ≡ named host_byte hosts byte }
-{
-    name_of(&[HostName::A, HostName::B], byte)
 }
 
 /// A part of what is moved, in the order in which the parts go.
@@ -51,60 +59,35 @@ pub enum Part {
 impl Named for Part {
     ghost byte = { part_byte };
 
+    ghost all = { parts };
+
+    fn all() -> &'static [Self] {
+        &[Part::Record, Part::Permanent, Part::Volatile, Part::Saved]
+    }
+
     fn to_byte(self) -> u8 {
         self as u8
     }
-}
-
-impl Part {
-    pub(crate) fn from_byte(byte: u8) -> Option<Part>
-        ensures found { result ≡ named part_byte parts byte }
-    {
-        name_of(
-            &[Part::Record, Part::Permanent, Part::Volatile, Part::Saved],
-            byte,
-        )
-    }
-}
-
-/// Why a host refuses an offer or a piece.
-#[derive(Clone, Copy, Debug, PartialEq, Eq)]
-pub enum Reason {
-    /// It runs, or has an offer of its own open.
-    Busy = 1,
-    /// A part is empty or too long.
-    Totals = 2,
-    /// The record of the device is malformed.
-    Record = 3,
-    /// The emulator refused a blob.
-    Blob = 4,
-    /// The link to the emulator failed.
-    Link = 5,
-    /// The emulator's reply has a byte that can't stand there.
-    Reply = 6,
 }
 
 impl Named for Reason {
     ghost byte = { reason_byte };
 
-    fn to_byte(self) -> u8 {
-        self as u8
-    }
-}
+    ghost all = { reasons };
 
-impl Reason {
-    pub(crate) fn from_byte(byte: u8) -> Option<Reason>
-        ensures found { result ≡ named reason_byte reasons byte }
-    {
-        let reasons = [
+    fn all() -> &'static [Self] {
+        &[
             Reason::Busy,
             Reason::Totals,
             Reason::Record,
             Reason::Blob,
             Reason::Link,
             Reason::Reply,
-        ];
-        name_of(&reasons, byte)
+        ]
+    }
+
+    fn to_byte(self) -> u8 {
+        self as u8
     }
 }
 
@@ -123,16 +106,10 @@ pub(crate) enum Kind {
 impl Named for Kind {
     ghost byte = { kind_byte };
 
-    fn to_byte(self) -> u8 {
-        self as u8
-    }
-}
+    ghost all = { kinds };
 
-impl Kind {
-    pub(crate) fn from_byte(byte: u8) -> Option<Kind>
-        ensures found { result ≡ named kind_byte kinds byte }
-    {
-        let kinds = [
+    fn all() -> &'static [Self] {
+        &[
             Kind::Offer,
             Kind::Need,
             Kind::Piece,
@@ -140,10 +117,15 @@ impl Kind {
             Kind::Commit,
             Kind::Abort,
             Kind::Refuse,
-        ];
-        name_of(&kinds, byte)
+        ]
     }
 
+    fn to_byte(self) -> u8 {
+        self as u8
+    }
+}
+
+impl Kind {
     /// Whether a message of this kind may have this length, where any message may.
     pub(crate) fn fits(self, length: u32) -> bool
         ensures fits { result ≡ fits self length }

@@ -3,9 +3,9 @@ ghost use Rattle.std.specs.Prelude.{◌≡◌, IfOk};
 ghost use Rattle.move_codec.specs.Outlines.{message_of};
 
 use crate::message::{Body, Message};
-use crate::names::{Part, Reason};
+use crate::names::Part;
 use std::alloc::{AllocError, Global};
-use vt_base::{Bytes, HostName};
+use vt_base::{Bytes, HostName, Reason};
 
 /// What a message says, but for the bytes of a piece.
 #[derive(Clone, Copy)]

@@ -5,8 +5,8 @@ ghost use Rattle.move_core.specs.Sides.{other, is_same, part_number, part_after,
 ghost use Rattle.move_core.specs.Table.{is_next, reason_for, value_for};
 
 use ctrl_client::ClientFault;
-use move_codec::{Part, Reason};
-use vt_base::HostName;
+use move_codec::Part;
+use vt_base::{HostName, Reason};
 
 /// The name of the other host.
 pub fn other(name: HostName) -> HostName

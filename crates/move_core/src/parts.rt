@@ -18,8 +18,8 @@ use crb_machine::{Device, NotYet};
 use crb_port::Port;
 use crb_regs::{Access, Phase};
 use ctrl_client::ClientFault;
-use move_codec::{Body, Message, Reason};
-use vt_base::HostName;
+use move_codec::{Body, Message};
+use vt_base::{HostName, Reason};
 
 /// A host: its name, the most bytes that a piece of its record has, the greatest epoch that it has seen, its side with what
 /// it knows there, the bytes of the record in this move, and its device.

@@ -22,9 +22,9 @@ use crb_port::Port;
 use ctrl_client::{ClientFault, Wires};
 use ctrl_model::TOTAL_PLACE;
 use device_record::load_record;
-use move_codec::{Body, Message, Part, Reason, messages_are_in_range};
+use move_codec::{Body, Message, Part, messages_are_in_range};
 use std::alloc::{AllocError, Global};
-use vt_base::{Bytes, Kind};
+use vt_base::{Bytes, Kind, Reason};
 
 impl<P: Port> HostParts<P> {
     // The host gives up its part in the move, and has no guest.

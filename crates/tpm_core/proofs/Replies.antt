@@ -5,7 +5,8 @@ use Rattle.std.specs.Int.{w16, w32}
 use Rattle.std.proofs.lemmas.List.{length-take, length-append, get_or_past}
 use Rattle.std.proofs.lemmas.Nat.{from_be_bytes-to_be_bytes_4}
 use Rattle.tpm_frame.specs.Numbers.{st_no_sessions, st_sessions}
-use Rattle.tpm_frame.specs.Frame.{big_endian_at, short, is_response_tag}
+use Rattle.tpm_frame.specs.Frame.{short, is_response_tag}
+use Rattle.vt_base.specs.Numbers.{big_endian_at}
 use Rattle.tpm_core.specs.declared.parts.TpmParts.{TpmParts}
 use Rattle.tpm_core.specs.declared.refusal.Refusal.{Refusal}
 use Rattle.tpm_core.specs.declared.refusal.Refusal.TheVariants.{BadTag, CommandSize, CommandCode, Initialize, AuthMissing, AuthContext, HandleCut, HandleValue, AuthSize, SessionValue, BadAuth, ParameterCut, ParameterValue, ParameterSize, ParameterHash, Locality}

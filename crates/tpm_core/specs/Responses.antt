@@ -2,7 +2,8 @@
 use Rattle.std.specs.Prelude.{◌≡◌, ℕ, ◌≤◌, List, length, IsTrue}
 use Rattle.std.specs.Int.{w16, w32}
 use Rattle.tpm_frame.specs.Numbers.{rc_canceled, header_size, largest_frame}
-use Rattle.tpm_frame.specs.Frame.{big_endian_at, short, is_response_tag}
+use Rattle.tpm_frame.specs.Frame.{short, is_response_tag}
+use Rattle.vt_base.specs.Numbers.{big_endian_at}
 
 -- bytes with the tag of a response and their length in the size field
 pub record IsResponse (bytes : List ℕ) : Type 0 where

@@ -2,7 +2,7 @@
 
 ghost use Rattle.std.specs.Prelude.{◌≡◌, ◌≢◌, ◌↔◌, ℕ, List, [], ◌++◌, take, IsOk};
 ghost use Rattle.std.specs.Int.{w32};
-ghost use Rattle.tpm_frame.specs.Frame.{big_endian_at};
+ghost use Rattle.vt_base.specs.Numbers.{big_endian_at};
 ghost use Rattle.tpm_frame.specs.Frames.{IsFrame};
 ghost use Rattle.tpm_core.specs.declared.command.Selection.{Selection};
 ghost use Rattle.tpm_core.specs.declared.parts.TpmParts.{TpmParts};

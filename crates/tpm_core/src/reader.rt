@@ -18,6 +18,7 @@ use tpm_frame::{
     BAD_TAG, COMMAND_SIZE, GET_RANDOM, HEADER_SIZE, Head, PCR_EXTEND, PCR_READ, SHUTDOWN, STARTUP,
     parse,
 };
+use vt_base::{u16_at, u32_at};
 
 /// How many bytes an authorisation by an empty password has: the session's handle, the size of its nonce, its
 /// attributes and the size of the password.
@@ -56,9 +57,10 @@ impl Reader<'_> {
         if self.rest.len() < 2 {
             return Err(cut);
         }
-        let (prefix, rest) = self.rest.split_at(2);
+        let number = u16_at(self.rest, 0);
+        let (_read, rest) = self.rest.split_at(2);
         self.rest = rest;
-        Ok(u16::from_be_bytes([prefix[0], prefix[1]]))
+        Ok(number)
     }
 
     fn u32(&mut self, cut: Refusal) -> Result<u32, Refusal>
@@ -67,9 +69,10 @@ impl Reader<'_> {
         if self.rest.len() < 4 {
             return Err(cut);
         }
-        let (prefix, rest) = self.rest.split_at(4);
+        let number = u32_at(self.rest, 0);
+        let (_read, rest) = self.rest.split_at(4);
         self.rest = rest;
-        Ok(u32::from_be_bytes([prefix[0], prefix[1], prefix[2], prefix[3]]))
+        Ok(number)
     }
 
     #[tactic(auto, unfolding(crate::specs::Reading::array_at))]

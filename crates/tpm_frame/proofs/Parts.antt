@@ -2,7 +2,8 @@
 use Rattle.std.proofs.Common.{◌≡◌, List, [], ℕ, ◌-◌, ◌≤◌, arith, length, take, drop, min, max, refl, ap, sym, ◌∙◌}
 use Rattle.std.specs.Int.{w32, from_be_bytes}
 use Rattle.std.proofs.lemmas.List.{length-take, length-drop, take_all, drop_all, drop-take, take-take}
-use Rattle.tpm_frame.specs.Frame.{big_endian_at, short}
+use Rattle.tpm_frame.specs.Frame.{short}
+use Rattle.vt_base.specs.Numbers.{big_endian_at}
 use Rattle.tpm_frame.specs.Frames.{frames, frame_length_of, IsFrame, IsPartOfFrame}
 
 -- before the first byte there is no frame

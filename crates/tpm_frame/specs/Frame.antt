@@ -1,12 +1,9 @@
 -- The header of a command, and responses without a body.
-use Rattle.std.specs.Prelude.{ℕ, Bool, not, ◌||◌, List, ◌++◌, length, take, drop, Result, Ok, Err, nat_lt, ◌==◌, if◌then◌else◌}
-use Rattle.std.specs.Int.{Width, w16, w32, byte_len, from_be_bytes, to_be_bytes}
+use Rattle.std.specs.Prelude.{ℕ, Bool, not, ◌||◌, List, ◌++◌, length, Result, Ok, Err, nat_lt, ◌==◌, if◌then◌else◌}
+use Rattle.std.specs.Int.{w16, w32, to_be_bytes}
+use Rattle.vt_base.specs.Numbers.{big_endian_at}
 use Rattle.tpm_frame.specs.declared.Head.{Head}
 use Rattle.tpm_frame.specs.Numbers.{st_no_sessions, st_sessions, st_rsp_command, cc_startup, cc_shutdown, cc_get_random, cc_pcr_read, cc_pcr_extend, rc_bad_tag, rc_command_size, rc_command_code, header_size}
-
--- the number at a place, its highest byte first
-abbrev pub big_endian_at : Width → ℕ → List ℕ → ℕ
-big_endian_at w at bytes = from_be_bytes w (take (byte_len w) (drop at bytes))
 
 -- the tag of a command
 abbrev pub is_tag : ℕ → Bool

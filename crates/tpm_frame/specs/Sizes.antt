@@ -2,7 +2,7 @@
 use Rattle.std.specs.Prelude.{◌≡◌, ◌≤◌, ◌&&◌, ◌==◌, nat_le, ℕ, Bool, List, length}
 use Rattle.std.specs.Int.{w32}
 use Rattle.tpm_frame.specs.Numbers.{header_size, largest_frame}
-use Rattle.tpm_frame.specs.Frame.{big_endian_at}
+use Rattle.vt_base.specs.Numbers.{big_endian_at}
 
 -- a command or a response of this length has a header and fits the buffer
 pub record IsLength (count : ℕ) : Type 0 where

@@ -4,10 +4,10 @@ ghost use Rattle.std.specs.Prelude.{◌≡◌, ◌≤◌, ◌++◌, length, [], 
 ghost use Rattle.std.specs.Bool.{OnTrue, OnFalse};
 ghost use Rattle.tpm_frame.specs.Frames.{frames, frame_length_of, first_frame, frames_within, IsFrame, IsPartOfFrame};
 
-use crate::{HEADER_SIZE, LARGEST_FRAME, SIZE_FIELD, u32_at};
+use crate::{HEADER_SIZE, LARGEST_FRAME, SIZE_FIELD};
 use std::alloc::{AllocError, Global};
 use std::marker::Model;
-use vt_base::{ByteBuf, Grammar, Missing, field_of};
+use vt_base::{ByteBuf, Grammar, Missing, field_of, u32_at};
 
 /// How many bytes of a frame say how long it is: the tag and the size field.
 const SIZED_FRONT: usize = 6;

@@ -4,7 +4,8 @@
 
 ghost use Rattle.std.specs.Prelude.{◌≡◌, ◌≤◌, ◌+◌, length, IfOk};
 ghost use Rattle.std.specs.Int.{w16, w32};
-ghost use Rattle.tpm_frame.specs.Frame.{big_endian_at, is_tag, is_known, short_tag, head_of, short};
+ghost use Rattle.tpm_frame.specs.Frame.{is_tag, is_known, short_tag, head_of, short};
+ghost use Rattle.vt_base.specs.Numbers.{big_endian_at};
 ghost use Rattle.tpm_frame.specs.Frames.{IsFrame};
 ghost use Rattle.vt_base.specs.Buffer.{followed_by_zeros};
 
@@ -14,7 +15,7 @@ mod sizes;
 
 pub use cutter::{Cutter, Took, first_frame, frame_length};
 pub use sizes::{SIZE_FIELD, SIZE_FIELD_LENGTH, is_length, is_well_sized};
-use vt_base::{BUFFER_LENGTH, Buf};
+use vt_base::{BUFFER_LENGTH, Buf, u16_at, u32_at};
 
 /// TPM_ST_NO_SESSIONS: the tag of a command or a response without authorisations.
 pub const NO_SESSIONS: u16 = 0x8001;
@@ -71,21 +72,6 @@ pub struct Head {
     pub sessions: bool,
     /// Which command it is: one of the five command codes of this crate.
     pub code: u32,
-}
-
-fn u16_at(bytes: &[u8], at: usize) -> u16
-    requires { at + 2 ≤ length bytes.now }
-    ensures { result ≡ big_endian_at w16 at bytes.now }
-{
-    u16::from_be_bytes([bytes[at], bytes[at + 1]])
-}
-
-/// The number in four bytes at a place, its highest byte first. The bytes have to be there.
-pub fn u32_at(bytes: &[u8], at: usize) -> u32
-    requires { at + 4 ≤ length bytes.now }
-    ensures { result ≡ big_endian_at w32 at bytes.now }
-{
-    u32::from_be_bytes([bytes[at], bytes[at + 1], bytes[at + 2], bytes[at + 3]])
 }
 
 /// Whether this is the tag of a command: TPM_ST_NO_SESSIONS or TPM_ST_SESSIONS.

@@ -3,7 +3,8 @@
 ghost use Rattle.std.specs.Prelude.{◌≡◌, ◌≤◌, ◌↔◌, IsTrue, length};
 ghost use Rattle.tpm_frame.specs.Sizes.{IsLength, IsWellSized, is_well_sized};
 
-use crate::{HEADER_SIZE, LARGEST_FRAME, u32_at};
+use crate::{HEADER_SIZE, LARGEST_FRAME};
+use vt_base::u32_at;
 
 /// Where the size field of a header begins.
 pub const SIZE_FIELD: usize = 2;

@@ -4,7 +4,7 @@ use Rattle.std.specs.Prelude.{nat_lt, ◌==◌, if◌then◌else◌}
 use Rattle.std.proofs.lemmas.Bool.{cond_both, le-ltb}
 use Rattle.crb_history.specs.Snapshot.{Snapshot}
 use Rattle.vt_base.specs.declared.types.HostName.{HostName}
-use Rattle.move_codec.specs.declared.names.Reason.TheVariants.{Busy}
+use Rattle.vt_base.specs.declared.types.Reason.TheVariants.{Busy}
 use Rattle.move_codec.specs.declared.names.Part.{Part}
 use Rattle.move_codec.specs.declared.message.Message.{Message}
 use Rattle.move_codec.specs.declared.message.Body.{Body}

@@ -5,8 +5,8 @@ use Rattle.std.proofs.lemmas.Bool.{cond_both, ltb-true}
 use Rattle.crb_history.specs.Snapshot.{Snapshot}
 use Rattle.vt_base.specs.declared.types.HostName.{HostName}
 use Rattle.vt_base.specs.declared.types.HostName.TheVariants.{A, B}
-use Rattle.move_codec.specs.declared.names.Reason.{Reason}
-use Rattle.move_codec.specs.declared.names.Reason.TheVariants as reason
+use Rattle.vt_base.specs.declared.types.Reason.{Reason}
+use Rattle.vt_base.specs.declared.types.Reason.TheVariants as reason
 use Rattle.move_codec.specs.declared.names.Part.{Part}
 use Rattle.move_codec.specs.declared.message.Message.{Message}
 use Rattle.move_codec.specs.declared.message.Body.{Body}

@@ -4,8 +4,8 @@ use Rattle.std.specs.Prelude.{nat_lt, ◌==◌}
 use Rattle.std.proofs.lemmas.Bool.{cond_both, eqb-true, ltb-true, and_parts}
 use Rattle.crb_history.specs.Snapshot.{Snapshot}
 use Rattle.vt_base.specs.declared.types.HostName.{HostName}
-use Rattle.move_codec.specs.declared.names.Reason.{Reason}
-use Rattle.move_codec.specs.declared.names.Reason.TheVariants as reason
+use Rattle.vt_base.specs.declared.types.Reason.{Reason}
+use Rattle.vt_base.specs.declared.types.Reason.TheVariants as reason
 use Rattle.move_codec.specs.declared.names.Part.{Part}
 use Rattle.move_codec.specs.declared.names.Part.TheVariants.{Record}
 use Rattle.move_codec.specs.declared.message.Message.{Message}

@@ -1,8 +1,8 @@
 -- The refusals and faults of every transcript in turn.
 use Rattle.std.proofs.Common.{◌≡◌, ℕ, Some}
 use Rattle.crb_history.specs.Snapshot.{Snapshot, IsValidSnapshot}
-use Rattle.move_codec.specs.declared.names.Reason.{Reason}
-use Rattle.move_codec.specs.declared.names.Reason.TheVariants as reason
+use Rattle.vt_base.specs.declared.types.Reason.{Reason}
+use Rattle.vt_base.specs.declared.types.Reason.TheVariants as reason
 use Rattle.move_codec.specs.declared.message.Message.{Message}
 use Rattle.vt_script.specs.declared.reply.Reply.TheVariants as reply
 use Rattle.two_hosts.specs.Hosts.{hosts_after, message_at}

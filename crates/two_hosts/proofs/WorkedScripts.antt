@@ -16,7 +16,7 @@ use Rattle.crb_history.specs.Continued.{snapshot_after}
 use Rattle.crb_history.specs.Device.JobStage.{Waiting, HasSent}
 use Rattle.vt_base.specs.declared.types.HostName.{HostName}
 use Rattle.vt_base.specs.declared.types.HostName.TheVariants.{A, B}
-use Rattle.move_codec.specs.declared.names.Reason.TheVariants as reason
+use Rattle.vt_base.specs.declared.types.Reason.TheVariants as reason
 use Rattle.move_codec.specs.declared.message.Message.{Message}
 use Rattle.two_hosts.specs.Hosts.{TwoHosts, first_hosts, hosts_after, running_host, offered_by, after_offer, after_exchange, next_number, message_at, bag_size}
 use Rattle.two_hosts.specs.Replies.{AnswersIn}

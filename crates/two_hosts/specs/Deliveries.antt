@@ -7,8 +7,8 @@ use Rattle.ctrl_client.specs.declared.fault.ClientFault.TheVariants.{Link}
 use Rattle.vt_base.specs.declared.types.HostName.{HostName}
 use Rattle.move_codec.specs.declared.names.Part.{Part}
 use Rattle.move_codec.specs.declared.names.Part.TheVariants.{Record}
-use Rattle.move_codec.specs.declared.names.Reason.{Reason}
-use Rattle.move_codec.specs.declared.names.Reason.TheVariants as reason
+use Rattle.vt_base.specs.declared.types.Reason.{Reason}
+use Rattle.vt_base.specs.declared.types.Reason.TheVariants as reason
 use Rattle.move_codec.specs.declared.message.Body.{Body}
 use Rattle.move_codec.specs.declared.message.Body.TheVariants as body
 use Rattle.move_core.specs.declared.stage.MoveStage.{MoveStage}

@@ -9,8 +9,8 @@ use Rattle.crb_history.specs.Device.{phase_of}
 use Rattle.crb_history.specs.Legal.{Legal}
 use Rattle.vt_transcript.specs.Replies.{IsReplyTo, is_under_way, Transcript}
 use Rattle.vt_base.specs.declared.types.HostName.{HostName}
-use Rattle.move_codec.specs.declared.names.Reason.{Reason}
-use Rattle.move_codec.specs.declared.names.Reason.TheVariants.{Busy}
+use Rattle.vt_base.specs.declared.types.Reason.{Reason}
+use Rattle.vt_base.specs.declared.types.Reason.TheVariants.{Busy}
 use Rattle.move_codec.specs.declared.message.Message.{Message}
 use Rattle.move_codec.specs.declared.message.Body.{Body}
 use Rattle.move_codec.specs.declared.message.Body.TheVariants as body

@@ -2,8 +2,8 @@
 ghost use Rattle.std.specs.Prelude.{◌≡◌, ◌≢◌, ℕ, ◌+◌, ◌-◌, ◌^◌, ◌<◌, length, ◌&&◌, true, false, Some, None, [], ◌∷◌, ◌++◌, map};
 ghost use Rattle.crb_history.specs.Snapshot.{Snapshot, IsValidSnapshot};
 ghost use Rattle.crb_history.specs.Continued.{snapshot_after};
-ghost use Rattle.move_codec.specs.declared.names.Reason.{Reason};
-ghost use Rattle.move_codec.specs.declared.names.Reason.TheVariants.{Link};
+ghost use Rattle.vt_base.specs.declared.types.Reason.{Reason};
+ghost use Rattle.vt_base.specs.declared.types.Reason.TheVariants.{Link};
 ghost use Rattle.vt_base.specs.declared.types.HostName.{HostName};
 ghost use Rattle.move_codec.specs.declared.message.Message.{Message};
 ghost use Rattle.move_codec.specs.declared.message.Body.TheVariants.{Commit, Prepared as PreparedBody};

@@ -11,8 +11,8 @@ use Rattle.crb_history.specs.Event.{History}
 use Rattle.state_blobs.specs.Encodings.{slice, encode_blob}
 use Rattle.vt_base.specs.declared.types.HostName.{HostName}
 use Rattle.vt_base.specs.declared.types.HostName.TheVariants.{A, B}
-use Rattle.move_codec.specs.declared.names.Reason.{Reason}
-use Rattle.move_codec.specs.declared.names.Reason.TheVariants as reason
+use Rattle.vt_base.specs.declared.types.Reason.{Reason}
+use Rattle.vt_base.specs.declared.types.Reason.TheVariants as reason
 use Rattle.move_codec.specs.declared.names.Part.{Part}
 use Rattle.move_codec.specs.declared.names.Part.TheVariants.{Record, Permanent, Volatile, Saved}
 use Rattle.move_codec.specs.declared.message.Message.{Message}

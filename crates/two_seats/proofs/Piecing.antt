@@ -26,7 +26,7 @@ use Rattle.ctrl_model.specs.Link.{Link}
 use Rattle.ctrl_client.specs.Schedules.{fails_within, schedule_after}
 use Rattle.crb_history.specs.Snapshot.{Snapshot}
 use Rattle.vt_base.specs.declared.types.HostName.{HostName}
-use Rattle.move_codec.specs.declared.names.Reason.TheVariants as reason
+use Rattle.vt_base.specs.declared.types.Reason.TheVariants as reason
 use Rattle.move_codec.specs.declared.names.Part.{Part}
 use Rattle.move_codec.specs.declared.names.Part.TheVariants.{Record, Permanent, Volatile, Saved}
 use Rattle.move_codec.specs.declared.message.Body.{Body}

@@ -18,6 +18,23 @@ pub enum HostName {
     B = 1,
 }
 
+/// Why a host refuses an offer or a piece.
+#[derive(Clone, Copy, Debug, PartialEq, Eq)]
+pub enum Reason {
+    /// It runs, or has an offer of its own open.
+    Busy = 1,
+    /// A part is empty or too long.
+    Totals = 2,
+    /// The record of the device is malformed.
+    Record = 3,
+    /// The emulator refused a blob.
+    Blob = 4,
+    /// The link to the emulator failed.
+    Link = 5,
+    /// The emulator's reply has a byte that can't stand there.
+    Reply = 6,
+}
+
 /// A part of the state of a TPM, as it is saved and moved.
 #[derive(Clone, Copy, Debug, PartialEq, Eq)]
 pub enum Kind {

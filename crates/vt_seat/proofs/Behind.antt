@@ -8,7 +8,7 @@ use Rattle.std.proofs.lemmas.Bool.Decides.{nat_tests}
 use Rattle.std.proofs.lemmas.List.{take_all, take-take, drop-take, length-take, drop_all}
 use Rattle.vt_base.specs.declared.types.Chan.TheVariants.{Data}
 use Rattle.vt_base.proofs.Layouts.{parsed_encodes}
-use Rattle.tpm_frame.specs.Frame.{big_endian_at}
+use Rattle.vt_base.specs.Numbers.{big_endian_at}
 use Rattle.tpm_frame.specs.Frames.{frames, frame_length_of, first_frame, IsFrame}
 use Rattle.tpm_frame.specs.Sizes.{named_size}
 use Rattle.tpm_frame.proofs.Parts.{first_tell, prefix_is_frame}

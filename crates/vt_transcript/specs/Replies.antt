@@ -5,7 +5,7 @@ use Rattle.crb_port.specs.declared.job.Outcome.TheVariants.{Done, Cancelled, Los
 use Rattle.tpm_core.specs.Answers.{answer}
 use Rattle.vt_script.specs.declared.event.Event.{Event as Line}
 use Rattle.vt_script.specs.declared.event.Event.TheVariants.{Access, Work, Ask as AskLine, Reset as ResetLine, Offer, Deliver, GiveUp, Again, Show, Fail}
-use Rattle.move_codec.specs.declared.names.Reason.TheVariants as reason
+use Rattle.vt_base.specs.declared.types.Reason.TheVariants as reason
 use Rattle.vt_script.specs.declared.reply.Reply.{Reply}
 use Rattle.vt_script.specs.declared.reply.Reply.TheVariants as replied
 use Rattle.crb_history.specs.Snapshot.{Snapshot}

@@ -14,10 +14,10 @@ ghost use Rattle.vt_script.specs.declared.event.Event.TheVariants.{Offer, Delive
 use crate::world::World;
 use crb_machine::stopped_devices_go_on;
 use crb_port::PlainPort;
-use move_codec::{Body, Message, Reason, write_message};
+use move_codec::{Body, Message, write_message};
 use move_core::{Delivered, OfferFault};
 use std::alloc::{AllocError, Global};
-use vt_base::{Bytes, HostName};
+use vt_base::{Bytes, HostName, Reason};
 use vt_script::Reply;
 
 /// How many messages the bag keeps.

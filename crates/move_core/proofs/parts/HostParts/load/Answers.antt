@@ -5,7 +5,7 @@ use Rattle.device_record.specs.Records.{IsRecord}
 use Rattle.device_record.specs.Layouts.{IsRefused}
 use Rattle.move_codec.specs.declared.names.Part.{Part}
 use Rattle.move_codec.specs.declared.names.Part.TheVariants as part
-use Rattle.move_codec.specs.declared.names.Reason.TheVariants as reason
+use Rattle.vt_base.specs.declared.types.Reason.TheVariants as reason
 use Rattle.move_codec.specs.declared.message.Body.TheVariants as body
 use Rattle.move_core.specs.declared.answers.Delivered.TheVariants.{Refused}
 use Rattle.move_core.specs.declared.parts.HostParts.{HostParts}
