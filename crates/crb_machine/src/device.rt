@@ -9,6 +9,7 @@ ghost use Rattle.crb_machine.specs.Over.{IsConsistentDevice, HasClaimedNumber, C
 ghost use Rattle.crb_port.specs.Calls.{KeepsWorker, Claims, Posts};
 
 use crate::parts::DeviceParts;
+use crate::state::HeldState;
 use crb_port::{Answer, Job, Port, PortModel, WorkPort};
 use crb_regs::{Access, Phase, Regs};
 use std::alloc::{AllocError, Global};
@@ -220,90 +221,45 @@ impl<P: Port> Device<P> {
         self.parts.held
     }
 
-    /// Whether the held device has access granted.
-    pub fn granted(&self) -> bool
-        requires held { self.now.held ≡ true }
-        ensures { result ≡ (held_values self.now).granted }
-    {
-        self.parts.regs.granted
-    }
-
-    /// The held device's value of CANCEL.
-    pub fn cancel_bit(&self) -> bool
-        requires held { self.now.held ≡ true }
-        ensures { result ≡ (held_values self.now).cancel }
-    {
-        self.parts.regs.cancel
-    }
-
-    /// Whether the job is cancelled that waits in the held device; false where none does.
-    pub fn waiting_cancelled(&self) -> bool
-        requires held { self.now.held ≡ true }
-        ensures { result ≡ (held_values self.now).cancelled }
-    {
-        self.parts.cancelled
-    }
-
-    /// All bytes of the held device's buffer.
-    pub fn content(&self) -> &[u8]
+    /// The values of the held device, with all bytes of its buffer.
+    pub fn state(&self) -> HeldState<'_>
         requires held { self.now.held ≡ true }
 
-        ensures value { result.now ≡ (held_values self.now).content }
-        ensures size { length result.now ≡ 3968 }
+        ensures values { result ≡ held_values self.now }
+        ensures size { length result.content ≡ 3968 }
 
         // Only a lost device has values that no other can have.
         ensures fit { is_lost self.now.regs.phase ≡ false → AreValid (held_values self.now) }
     {
-        self.parts.content()
+        HeldState {
+            regs: self.parts.regs,
+            cancelled: self.parts.cancelled,
+            number: self.parts.number,
+            content: self.parts.content(),
+        }
     }
 
     /// The held device gets these values, and a buffer of these bytes followed by zeros.
-    pub fn restore(
-        &mut self,
-        granted: bool,
-        cancel: bool,
-        phase: Phase,
-        cancelled: bool,
-        number: u64,
-        content: &[u8],
-    )
+    pub fn set_state(&mut self, state: &HeldState<'_>)
         requires held { self.old.held ≡ true }
-        requires working { phase ≢ Phase.Lost }
-        requires size { length content.now ≤ 3968 }
-        requires idle { phase ≡ Phase.Idle → content.now ≡ [] }
-        requires waits { cancelled ≡ true → phase ≡ Phase.Execution }
+        requires working { state.now.phase ≢ Phase.Lost }
+        requires size { length state.now.content ≤ 3968 }
+        requires idle { state.now.phase ≡ Phase.Idle → state.now.content ≡ [] }
+        requires waits { state.now.cancelled ≡ true → state.now.phase ≡ Phase.Execution }
 
         ensures held { self.new.held ≡ true }
-        ensures values { held_values self.new ≡ record {
-          granted = granted;
-          cancel = cancel;
-          phase = phase;
-          cancelled = cancelled;
-          content = followed_by_zeros content.now;
-          number = number;
-        } }
-        ensures restored { self.new ≡ with_values (record {
-          granted = granted;
-          cancel = cancel;
-          phase = phase;
-          cancelled = cancelled;
-          content = followed_by_zeros content.now;
-          number = number;
-        }) self.old }
+        ensures values { held_values self.new ≡ record state.now { content = followed_by_zeros state.now.content } }
+        ensures restored { self.new ≡ with_values (record state.now { content = followed_by_zeros state.now.content }) self.old }
         ensures port { self.new.port ≡ self.old.port }
         ensures consistent { IsConsistentDevice P.port_view self.new }
         ensures claimed_number { HasClaimedNumber P.port_view self.new }
         ensures rest_unchanged { P.rest self.new.port ≡ P.rest self.old.port }
     {
-        self.parts.regs = Regs {
-            granted,
-            cancel,
-            phase,
-        };
-        self.parts.cancelled = cancelled;
-        self.parts.number = number;
+        self.parts.regs = state.regs;
+        self.parts.cancelled = state.cancelled;
+        self.parts.number = state.number;
         if let Some(buf) = &mut self.parts.own_buffer {
-            buf.hold(content);
+            buf.hold(state.content);
         }
     }
 }

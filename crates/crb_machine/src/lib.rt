@@ -15,6 +15,8 @@ mod held;
 mod laws;
 mod parts;
 mod phases;
+mod state;
 
 pub use device::{Device, NotYet};
 pub use laws::{held_devices_go_on, stopped_devices_go_on};
+pub use state::HeldState;

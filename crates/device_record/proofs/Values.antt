@@ -141,20 +141,15 @@ decoded_is_of_values f bytes fits spelled = (decoded_is_record f bytes fits spel
 abbrev fields_with : Bool → Bool → Phase → Bool → ℕ → ℕ → Fields
 fields_with granted cancel phase cancelled number count = record { regs = record { granted = granted; cancel = cancel; phase = phase }; cancelled = cancelled; number = number; count = count }
 
-pub text_written : (v : DeviceValues) (granted cancel : Bool) (phase : Phase) (cancelled : Bool) (number count : ℕ) (content new : List ℕ) → granted ≡ v.granted → cancel ≡ v.cancel → phase ≡ v.phase
-    → cancelled ≡ v.cancelled → number ≡ v.number → content ≡ v.content → take count content ≡ trimmed content → count ≤ length content
-    → take (23 + length (take count content)) new ≡ encode_header (fields_with granted cancel phase cancelled number count) ++ take count content → take (23 + count) new ≡ encode_record v
+pub text_written : (x v : DeviceValues) (count : ℕ) (new : List ℕ) → x ≡ v → take count x.content ≡ trimmed x.content → count ≤ length x.content
+    → take (23 + length (take count x.content)) new ≡ encode_header (fields_with x.granted x.cancel x.phase x.cancelled x.number count) ++ take count x.content → take (23 + count) new ≡ encode_record v
 unfolding encode_record
-text_written v granted cancel phase cancelled number count content new a b c d e same kept le written =
-    let size : length (take count content) ≡ count = omega (arith, length-take count content) in
-    let kept_too : take count content ≡ trimmed v.content = kept ∙ ap trimmed same in
-    let count_too : count ≡ length (trimmed v.content) = sym size ∙ ap length kept_too in
-    let fields : fields_with granted cancel phase cancelled number count ≡ fields_of v =
-    ap (λ (x : Bool). fields_with x cancel phase cancelled number count) a ∙ ap (λ (x : Bool). fields_with v.granted x phase cancelled number count) b ∙ ap (λ (x : Phase). fields_with v.granted v.cancel x cancelled number count) c
-    ∙ ap (λ (x : Bool). fields_with v.granted v.cancel v.phase x number count) d ∙ ap (λ (x : ℕ). fields_with v.granted v.cancel v.phase v.cancelled x count) e
-    ∙ ap (λ (x : ℕ). fields_with v.granted v.cancel v.phase v.cancelled v.number x) count_too in
+text_written x v count new same kept le written =
+    let size : length (take count x.content) ≡ count = omega (arith, length-take count x.content) in
+    let count_too : count ≡ length (trimmed x.content) = sym size ∙ ap length kept in
+    let fields : fields_with x.granted x.cancel x.phase x.cancelled x.number count ≡ fields_of x = ap (λ (n : ℕ). fields_with x.granted x.cancel x.phase x.cancelled x.number n) count_too in
     ap (λ (n : ℕ). take (23 + n) new) (sym size) ∙ written
-    ∙ ap (λ (f : Fields). encode_header f ++ take count content) fields ∙ ap (λ (list : List ℕ). encode_header (fields_of v) ++ list) kept_too
+    ∙ ap (λ (f : Fields). encode_header f ++ take count x.content) fields ∙ ap (λ (list : List ℕ). encode_header (fields_of x) ++ list) kept ∙ ap encode_record same
 
 -- ---- and what a device gets
 

@@ -34,10 +34,10 @@ pub const HEADER_SIZE: usize = 23;
 /// The last byte of the content stands behind this place, as many bytes as the content has.
 pub const BEFORE_CONTENT: u32 = 22;
 
-/// How many bytes follow the length where there is no content.
-pub const FIXED_LENGTH: u32 = 14;
+/// How many bytes follow the length at least: as many as where there is no content.
+pub const SMALLEST_LENGTH: u32 = 14;
 
-/// How many follow it where the whole buffer is content.
+/// How many follow it at most: as many as where the whole buffer is content.
 pub const LARGEST_LENGTH: u32 = 3982;
 
 /// How many bytes are lent for a record, which needs 3991 at most.

@@ -26,5 +26,5 @@ mod reading;
 mod record;
 mod writing;
 
-pub use format::RECORD_ROOM;
+pub use format::{LARGEST_LENGTH, MAGIC, RECORD_ROOM, SMALLEST_LENGTH};
 pub use record::{load_record, write_record};

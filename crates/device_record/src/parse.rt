@@ -6,8 +6,8 @@ ghost use Rattle.device_record.specs.Layouts.{ends_in_zero, content_then, count_
 
 use crate::fields::{Fields, flag_at, phase_at};
 use crate::format::{
-    BEFORE_CONTENT, CANCEL_PLACE, CANCELLED_PLACE, COUNT_PLACE, FIXED_LENGTH, GRANTED_PLACE,
-    LARGEST_LENGTH, LENGTH_PLACE, MAGIC, PHASE_PLACE, VERSION, VERSION_PLACE,
+    BEFORE_CONTENT, CANCEL_PLACE, CANCELLED_PLACE, COUNT_PLACE, GRANTED_PLACE, LARGEST_LENGTH,
+    LENGTH_PLACE, MAGIC, PHASE_PLACE, SMALLEST_LENGTH, VERSION, VERSION_PLACE,
 };
 use crb_regs::{Phase, Regs};
 use vt_base::{
@@ -34,7 +34,7 @@ fn count_of(size: u32, regs: Regs, cancelled: bool, number: u64, rest: &[u8]) ->
     ensures { result ≡ parsed (count_then size regs cancelled number) rest.now }
 {
     let (count, rest) = short_of(rest)?;
-    if FIXED_LENGTH + u32::from(count) != size {
+    if SMALLEST_LENGTH + u32::from(count) != size {
         return refused(Why::Length, COUNT_PLACE);
     }
     if regs.phase == Phase::Idle && count > 0 {
@@ -90,7 +90,7 @@ fn length_of(rest: &[u8]) -> Parsed<Fields>
     ensures { result ≡ parsed length_then rest.now }
 {
     let (size, rest) = number_of(rest)?;
-    if size < FIXED_LENGTH || size > LARGEST_LENGTH {
+    if size < SMALLEST_LENGTH || size > LARGEST_LENGTH {
         return refused(Why::Length, LENGTH_PLACE);
     }
     registers_of(size, rest)

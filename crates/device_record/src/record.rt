@@ -10,9 +10,9 @@ use crate::fields::Fields;
 use crate::format::{HEADER_SIZE, RECORD_ROOM};
 use crate::reading::fields_in;
 use crate::writing::{put_record, trimmed_length};
-use crb_machine::Device;
+use crb_machine::{Device, HeldState};
 use crb_port::Port;
-use crb_regs::{Phase, Regs};
+use crb_regs::Phase;
 use vt_base::Malformed;
 
 /// Writes the record of a held device at the start of the bytes, and gives its length. A lost device has none.
@@ -26,16 +26,13 @@ pub fn write_record<P: Port>(device: &Device<P>, into: &mut [u8; RECORD_ROOM]) -
     ensures within { result ≤ 3991 }
     ensures size { length (encode_record (held_values device.now)) ≡ result }
 {
-    let content = device.content();
+    let state = device.state();
+    let content = state.content;
     let count = trimmed_length(content);
     let fields = Fields {
-        regs: Regs {
-            granted: device.granted(),
-            cancel: device.cancel_bit(),
-            phase: device.phase(),
-        },
-        cancelled: device.waiting_cancelled(),
-        number: device.number(),
+        regs: state.regs,
+        cancelled: state.cancelled,
+        number: state.number,
         count: count as u16,
     };
     put_record(&fields, &content[..count], into);
@@ -58,15 +55,11 @@ pub fn load_record<P: Port>(device: &mut Device<P>, bytes: &[u8]) -> Result<(), 
     ensures rest_unchanged { P.rest device.new.port ≡ P.rest device.old.port }
 {
     let fields = fields_in(bytes)?;
-    let regs = fields.regs;
-    let content = &bytes[HEADER_SIZE..];
-    device.restore(
-        regs.granted,
-        regs.cancel,
-        regs.phase,
-        fields.cancelled,
-        fields.number,
-        content,
-    );
+    device.set_state(&HeldState {
+        regs: fields.regs,
+        cancelled: fields.cancelled,
+        number: fields.number,
+        content: &bytes[HEADER_SIZE..],
+    });
     Ok(())
 }

@@ -4,7 +4,7 @@ ghost use Rattle.std.specs.Prelude.{◌≡◌, ◌+◌, ◌≤◌, ◌++◌, len
 ghost use Rattle.device_record.specs.Records.{trimmed, encode_header};
 
 use crate::fields::{Fields, flag_byte, phase_code};
-use crate::format::{FIXED_LENGTH, HEADER_SIZE, MAGIC, VERSION};
+use crate::format::{HEADER_SIZE, MAGIC, SMALLEST_LENGTH, VERSION};
 
 /// How many bytes are left without the zeros at the end.
 #[tactic(auto, using(crate::proofs::Trims::trimmed_step, crate::proofs::Trims::trimmed_end))]
@@ -23,7 +23,7 @@ fn header(fields: &Fields) -> [u8; HEADER_SIZE]
     ensures { result ≡ encode_header fields.now }
 {
     let [m0, m1, m2, m3] = MAGIC;
-    let [s0, s1, s2, s3] = (FIXED_LENGTH + u32::from(fields.count)).to_be_bytes();
+    let [s0, s1, s2, s3] = (SMALLEST_LENGTH + u32::from(fields.count)).to_be_bytes();
     let granted = flag_byte(fields.regs.granted);
     let cancel = flag_byte(fields.regs.cancel);
     let phase = phase_code(fields.regs.phase);

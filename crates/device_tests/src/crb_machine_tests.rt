@@ -3,7 +3,7 @@ ghost use Rattle.crb_port.specs.Views.{claimed_number_in};
 
 use crb_machine::*;
 use crb_port::{Answer, Job, Outcome, PlainPort, Port, WorkPort};
-use crb_regs::{Access, Phase};
+use crb_regs::{Access, Phase, Regs};
 use std::alloc::{AllocError, Global};
 use std::marker::Model;
 use std::test::*;
@@ -83,15 +83,11 @@ fn pauses(device: &mut Device<PlainPort>, step: Step) -> bool
 {
     match step {
         Holds(bits, phase, number, prefix) => {
-            let held = [
-                device.granted(),
-                device.cancel_bit(),
-                device.waiting_cancelled(),
-            ];
-            held == bits
-                && device.phase() == phase
-                && device.number() == number
-                && device.content().starts_with(prefix)
+            let state = device.state();
+            [state.regs.granted, state.regs.cancel, state.cancelled] == bits
+                && state.regs.phase == phase
+                && state.number == number
+                && state.content.starts_with(prefix)
         }
         GoOn => {
             device.go_on();
@@ -118,7 +114,16 @@ impl Bench {
     fn restored(alloc: Global) -> Result<Bench, AllocError> {
         let mut device = Device::new(alloc, PlainPort::new())?;
         if device.stop().is_ok() {
-            device.restore(true, true, Phase::Completion, false, 7, &SUCCESS);
+            device.set_state(&HeldState {
+                regs: Regs {
+                    granted: true,
+                    cancel: true,
+                    phase: Phase::Completion,
+                },
+                cancelled: false,
+                number: 7,
+                content: &SUCCESS,
+            });
         }
         Ok(Bench { device, job: None })
     }
@@ -621,7 +626,7 @@ const RESTORED: [Step; 7] = [
 const NEXT_OF_RESTORED: [Step; 1] = [Claim(8, true)];
 
 #[test]
-fn restore_gives_the_device_these_values(rt: HostRuntime) -> Result<(), Fail> {
+fn set_state_gives_the_device_these_values(rt: HostRuntime) -> Result<(), Fail> {
     let mut bench = Bench::restored(rt.alloc())?;
     let wrong = bench.first_mismatch(&[&RESTORED, &STARTUP, &NEXT_OF_RESTORED]);
     assert_eq!(rt; wrong, None);

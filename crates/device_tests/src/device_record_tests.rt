@@ -3,9 +3,9 @@
 
 ghost use Rattle.std.specs.Prelude.{◌≡◌, true, IfOk};
 
-use crb_machine::Device;
+use crb_machine::{Device, HeldState};
 use crb_port::PlainPort;
-use crb_regs::{Access, Phase};
+use crb_regs::{Access, Phase, Regs};
 use device_record::*;
 use std::alloc::Global;
 use std::process::Abort;
@@ -99,7 +99,16 @@ fn is_largest(device: &mut Device<PlainPort>, other: &mut Device<PlainPort>) -> 
     if !device.is_held() || !other.is_held() {
         return false;
     }
-    device.restore(false, false, Phase::Completion, false, u64::MAX, &content);
+    device.set_state(&HeldState {
+        regs: Regs {
+            granted: false,
+            cancel: false,
+            phase: Phase::Completion,
+        },
+        cancelled: false,
+        number: u64::MAX,
+        content: &content,
+    });
     if device.phase() == Phase::Lost || write_record(device, &mut record) != 3991 {
         return false;
     }
@@ -109,7 +118,7 @@ fn is_largest(device: &mut Device<PlainPort>, other: &mut Device<PlainPort>) -> 
     if !written || load_record(other, record.get(..3991).unwrap_or(&[])) != Ok(()) {
         return false;
     }
-    let taken = other.is_held() && other.content() == content.as_slice();
+    let taken = other.is_held() && other.state().content == content.as_slice();
     if taken {
         other.go_on();
     }
@@ -117,7 +126,7 @@ fn is_largest(device: &mut Device<PlainPort>, other: &mut Device<PlainPort>) -> 
 }
 
 #[test]
-fn the_largest_record_has_3996_bytes(rt: HostRuntime) -> Result<(), Fail> {
+fn the_largest_record_has_3991_bytes(rt: HostRuntime) -> Result<(), Fail> {
     let mut device = held_after(&rt, rt.alloc(), &[])?;
     let mut other = held_after(&rt, rt.alloc(), &[])?;
     assert!(rt; is_largest(&mut device, &mut other));
