@@ -97,14 +97,14 @@ decoded_is_body kind bytes fits spelled =
 
 -- ---- the values of a TPM encode bodies
 
-pub pcr_are_registers : (v : TpmParts) → IsValid v → AreRegisters v.pcr
+pub pcr_are_registers : (v : TpmParts) → IsValid v → AreRegisters 32 v.pcr
 pcr_are_registers v fit i lt = fit.width Sha256 i (omega (arith, lt, fit.registers Sha256))
 
-pub kept_are_registers : (state : SavedParts) → IsKept state → AreRegisters state.pcr
+pub kept_are_registers : (state : SavedParts) → IsKept state → AreRegisters 32 state.pcr
 kept_are_registers state kept i lt = kept.width Sha256 i (omega (arith, lt, kept.registers Sha256))
 
-pub length-counted : (counter : ℕ) (registers : List (List ℕ)) → AreRegisters registers → length (counted counter registers) ≡ 4 + 32 * length registers
-length-counted counter registers are = omega (arith, length-append (number counter) (concat registers), length-concat registers are)
+pub length-counted : (counter : ℕ) (registers : List (List ℕ)) → AreRegisters 32 registers → length (counted counter registers) ≡ 4 + length registers * 32
+length-counted counter registers are = omega (arith, length-append (number counter) (concat registers), length-concat 32 registers are)
 
 length-running : (v : TpmParts) → IsValid v → length ((1 ∷ long v.draws) ++ counted v.counter v.pcr) ≡ 781
 length-running v fit = omega (arith, length-append (1 ∷ long v.draws) (counted v.counter v.pcr), length-counted v.counter v.pcr (pcr_are_registers v fit), fit.registers Sha256)
@@ -184,10 +184,10 @@ long_from bytes fits size = be_bytes_8 bytes _ size fits refl
 long_below : (bytes : List ℕ) → IsBytes bytes → from_be_bytes w64 bytes < 2 ^ 64
 long_below bytes fits = omega (arith, fits 0, fits 1, fits 2, fits 3, fits 4, fits 5, fits 6, fits 7)
 
-counted_in : (n : ℕ) (bytes : List ℕ) → IsBytes bytes → length bytes ≡ 4 + 32 * n → counted (from_be_bytes w32 (take 4 bytes)) (registers_in n (drop 4 bytes)) ≡ bytes
+counted_in : (n : ℕ) (bytes : List ℕ) → IsBytes bytes → length bytes ≡ 4 + n * 32 → counted (from_be_bytes w32 (take 4 bytes)) (registers_in 32 n (drop 4 bytes)) ≡ bytes
 counted_in n bytes fits size =
-    ap (λ (prefix : List ℕ). prefix ++ concat (registers_in n (drop 4 bytes))) (number-from bytes fits (omega (arith, size)))
-    ∙ ap (λ (rest : List ℕ). take 4 bytes ++ rest) (concat-registers_in n (drop 4 bytes) (omega (arith, size, length-drop 4 bytes)))
+    ap (λ (prefix : List ℕ). prefix ++ concat (registers_in 32 n (drop 4 bytes))) (number-from bytes fits (omega (arith, size)))
+    ∙ ap (λ (rest : List ℕ). take 4 bytes ++ rest) (concat-registers_in 32 n (drop 4 bytes) (omega (arith, size, length-drop 4 bytes)))
     ∙ take-append-drop 4 bytes
 
 -- values whose body this is
@@ -214,7 +214,7 @@ running_with rest = record {
   boots = 0;
   draws = from_be_bytes w64 (take 8 rest);
   started = true;
-  pcr = registers_in 24 (drop 4 (drop 8 rest));
+  pcr = registers_in 32 24 (drop 4 (drop 8 rest));
   counter = from_be_bytes w32 (take 4 (drop 8 rest));
   saved = None;
 }
@@ -222,15 +222,15 @@ running_with rest = record {
 fit_running : (rest : List ℕ) → IsBytes rest → length rest ≡ 780 → IsValid (running_with rest)
 unfolding running_with
 fit_running rest fits size =
-    let long_enough : length (drop 4 (drop 8 rest)) ≡ 32 * 24 = omega (arith, size, length-drop 4 (drop 8 rest), length-drop 8 rest) in
-    let are = AreRegisters-registers_in 24 (drop 4 (drop 8 rest)) long_enough in
+    let long_enough : length (drop 4 (drop 8 rest)) ≡ 24 * 32 = omega (arith, size, length-drop 4 (drop 8 rest), length-drop 8 rest) in
+    let are = AreRegisters-registers_in 32 24 (drop 4 (drop 8 rest)) long_enough in
     record {
       seed = refl;
       boots = omega arith;
       draws = long_below (take 8 rest) (IsBytes-take 8 rest fits);
       counter = number_below (take 4 (drop 8 rest)) (IsBytes-take 4 (drop 8 rest) (IsBytes-drop 8 rest fits));
-      registers = of_each _ (length-registers_in 24 (drop 4 (drop 8 rest)));
-      width = of_each _ (λ i lt. are i (omega (arith, lt, length-registers_in 24 (drop 4 (drop 8 rest)))));
+      registers = of_each _ (length-registers_in 32 24 (drop 4 (drop 8 rest)));
+      width = of_each _ (λ i lt. are i (omega (arith, lt, length-registers_in 32 24 (drop 4 (drop 8 rest)))));
       stopped = λ off. absurd cc;
       kept_fits = tt;
       kept_agrees = λ on. tt;
@@ -241,19 +241,19 @@ unfolding running_with
 running_encoded rest fits size =
     let behind = counted_in 24 (drop 8 rest) (IsBytes-drop 8 rest fits) (omega (arith, size, length-drop 8 rest)) in
     let draws = long_from (take 8 rest) (IsBytes-take 8 rest fits) (omega (arith, size, length-take 8 rest)) in
-    sym (ap (λ (prefix : List ℕ). (1 ∷ prefix) ++ counted (from_be_bytes w32 (take 4 (drop 8 rest))) (registers_in 24 (drop 4 (drop 8 rest)))) draws
+    sym (ap (λ (prefix : List ℕ). (1 ∷ prefix) ++ counted (from_be_bytes w32 (take 4 (drop 8 rest))) (registers_in 32 24 (drop 4 (drop 8 rest)))) draws
     ∙ ap (λ (back : List ℕ). (1 ∷ take 8 rest) ++ back) behind
     ∙ ap (λ (all : List ℕ). 1 ∷ all) (take-append-drop 8 rest))
 
 kept_encoded : (rest : List ℕ) → IsBytes rest → length rest ≡ 516 → Spelled Saved (1 ∷ rest)
 kept_encoded rest fits size =
-    let long_enough : length (drop 4 rest) ≡ 32 * 16 = omega (arith, size, length-drop 4 rest) in
-    let state : SavedParts = record { counter = from_be_bytes w32 (take 4 rest); pcr = registers_in 16 (drop 4 rest) } in
-    let are = AreRegisters-registers_in 16 (drop 4 rest) long_enough in
+    let long_enough : length (drop 4 rest) ≡ 16 * 32 = omega (arith, size, length-drop 4 rest) in
+    let state : SavedParts = record { counter = from_be_bytes w32 (take 4 rest); pcr = registers_in 32 16 (drop 4 rest) } in
+    let are = AreRegisters-registers_in 32 16 (drop 4 rest) long_enough in
     let kept : IsKept state = record {
       counter = number_below (take 4 rest) (IsBytes-take 4 rest fits);
-      registers = of_each _ (length-registers_in 16 (drop 4 rest));
-      width = of_each _ (λ i lt. are i (omega (arith, lt, length-registers_in 16 (drop 4 rest))));
+      registers = of_each _ (length-registers_in 32 16 (drop 4 rest));
+      width = of_each _ (λ i lt. are i (omega (arith, lt, length-registers_in 32 16 (drop 4 rest))));
     } in
     record {
       values = stopped_with zero_seed 0 (Some state);

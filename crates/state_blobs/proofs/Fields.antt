@@ -1,9 +1,8 @@
 -- Fields at their places in whole blobs.
-use Rattle.std.proofs.Common.{◌≡◌, ℕ, ◌+◌, ◌*◌, ◌<◌, ◌^◌, Bool, true, false, cond, eqb, List, [], ◌∷◌, ◌++◌, length, take, drop, get_or, Option, Some, None, refl, sym, ap, ◌∙◌, arith, inl, inr}
+use Rattle.std.proofs.Common.{◌≡◌, ℕ, ◌+◌, ◌<◌, ◌^◌, Bool, true, false, cond, eqb, List, [], ◌∷◌, ◌++◌, length, take, drop, get_or, Option, Some, None, refl, sym, ap, ◌∙◌, arith, inl, inr}
 use Rattle.std.specs.Prelude.{IfSome, is_some}
 use Rattle.std.specs.Int.{w32, w64, from_be_bytes}
-use Rattle.std.specs.List.{concat}
-use Rattle.std.proofs.lemmas.List.{length-append, take_at, drop_at, take_all, drop-drop}
+use Rattle.std.proofs.lemmas.List.{length-append, take_at, drop_at, drop-drop}
 use Rattle.std.proofs.lemmas.Nat.{from_be_bytes-to_be_bytes_4, from_be_bytes-to_be_bytes_8}
 use Rattle.vt_base.specs.Numbers.{long}
 use Rattle.vt_base.specs.declared.types.Kind.{Kind}
@@ -17,7 +16,7 @@ use Rattle.state_blobs.specs.Encodings.{counted, saved_body, body_of, encode_blo
 use Rattle.state_blobs.specs.Assembly.{TellsVolatile, TellsSaved, IsNoneOrBlob}
 use Rattle.state_blobs.specs.Reading.{running_in}
 use Rattle.state_blobs.specs.Running.{AreRegisters}
-use Rattle.state_blobs.proofs.Registers.{length-concat, same_registers}
+use Rattle.state_blobs.proofs.Registers.{same_registers}
 use Rattle.state_blobs.proofs.Bodies.{pcr_are_registers, kept_are_registers, length-started, length-kept_too}
 
 -- ---- how long they are
@@ -87,16 +86,12 @@ same_running r s a b c =
 pub same_state : (r s : SavedParts) → r.counter ≡ s.counter → r.pcr ≡ s.pcr → r ≡ s
 same_state r s a b = ap (λ (x : ℕ). record r { counter = x }) a ∙ ap (λ (x : List (List ℕ)). record s { pcr = x }) b
 
--- a counter with registers behind it, at a place of the body
-counter_read : (counter : ℕ) (registers : List (List ℕ)) (bytes : List ℕ) (at : ℕ) → counter < 2 ^ 32 → drop at bytes ≡ counted counter registers → from_be_bytes w32 (slice bytes at 4) ≡ counter
-counter_read counter registers bytes at below is = ap (λ (rest : List ℕ). from_be_bytes w32 (take 4 rest)) is ∙ from_be_bytes-to_be_bytes_4 counter below
-
-registers_read : (counter : ℕ) (registers read : List (List ℕ)) (bytes : List ℕ) (at count : ℕ) → drop at bytes ≡ counted counter registers → AreRegisters registers → length registers ≡ count
-    → AreRegisters read → length read ≡ count → concat read ≡ slice bytes (at + 4) (32 * count) → read ≡ registers
-registers_read counter registers read bytes at count is are size are_too size_too exact =
-    let behind : drop (at + 4) bytes ≡ concat registers = sym (drop-drop 4 at bytes) ∙ ap (drop 4) is in
-    let all : take (32 * count) (drop (at + 4) bytes) ≡ concat registers = ap (take (32 * count)) behind ∙ take_all (32 * count) (concat registers) (omega (arith, length-concat registers are, size)) in
-    same_registers read registers are_too are (size_too ∙ sym size) (exact ∙ all)
+-- a counter and registers are determined by their bytes
+pub counted_same : (c d : ℕ) (xs ys : List (List ℕ)) → c < 2 ^ 32 → d < 2 ^ 32 → AreRegisters 32 xs → AreRegisters 32 ys → length xs ≡ length ys → counted c xs ≡ counted d ys → (c ≡ d) × (xs ≡ ys)
+counted_same c d xs ys below below_too are are_too size same = (
+  sym (from_be_bytes-to_be_bytes_4 c below) ∙ ap (λ (bytes : List ℕ). from_be_bytes w32 (take 4 bytes)) same ∙ from_be_bytes-to_be_bytes_4 d below_too,
+  same_registers 32 xs ys are are_too size (ap (drop 4) same),
+)
 
 -- what stands behind the header of a started TPM's volatile blob
 running_body : (v : TpmParts) → v.started ≡ true → drop 9 (encode_blob Volatile v) ≡ (1 ∷ long v.draws) ++ counted v.counter v.pcr
@@ -115,15 +110,16 @@ draws_read v bytes fit exact on =
     ap (λ (rest : List ℕ). from_be_bytes w64 (take 8 rest)) (sym (drop-drop 1 9 bytes) ∙ ap (drop 1) (ap (drop 9) (decoded_running v bytes exact on) ∙ running_body v on))
     ∙ from_be_bytes-to_be_bytes_8 v.draws fit.draws
 
-pub running_read : (v : TpmParts) (bytes : List ℕ) (r : Running) → IsValid v → TellsVolatile bytes v → eqb (get_or bytes 9 0) 1 ≡ true → r.draws ≡ from_be_bytes w64 (slice bytes 10 8)
-    → r.counter ≡ from_be_bytes w32 (slice bytes 18 4) → concat r.pcr ≡ slice bytes 22 768 → AreRegisters r.pcr → length r.pcr ≡ 24 → Some r ≡ running_in v
-running_read v bytes r fit exact flag draws counter pcr are size =
+pub running_read : (v : TpmParts) (bytes : List ℕ) (r : Running) → IsValid v → TellsVolatile bytes v → eqb (get_or bytes 9 0) 1 ≡ true → r.draws < 2 ^ 64 → r.counter < 2 ^ 32
+    → AreRegisters 32 r.pcr → length r.pcr ≡ 24 → drop 10 bytes ≡ long r.draws ++ counted r.counter r.pcr → Some r ≡ running_in v
+running_read v bytes r fit exact flag draws counter are size body =
     let on : v.started ≡ true = sym (started_read v bytes exact) ∙ flag in
-    let behind = counted_in_volatile v bytes exact on in
-    let same : r ≡ record { draws = v.draws; counter = v.counter; pcr = v.pcr } =
-    same_running r (record { draws = v.draws; counter = v.counter; pcr = v.pcr }) (draws ∙ draws_read v bytes fit exact on) (counter ∙ counter_read v.counter v.pcr bytes 18 fit.counter behind)
-    (registers_read v.counter v.pcr r.pcr bytes 18 24 behind (pcr_are_registers v fit) (fit.registers Sha256) are size pcr) in
-    ap (λ (x : Running). Some x) same ∙ sym (ap (λ (b : Bool). cond b (Some (record { draws = v.draws; counter = v.counter; pcr = v.pcr })) None) on)
+    let same_draws : r.draws ≡ v.draws =
+    sym (from_be_bytes-to_be_bytes_8 r.draws draws) ∙ ap (λ (rest : List ℕ). from_be_bytes w64 (take 8 rest)) (sym body) ∙ draws_read v bytes fit exact on in
+    let behind : counted r.counter r.pcr ≡ counted v.counter v.pcr = ap (drop 8) (sym body) ∙ drop-drop 8 10 bytes ∙ counted_in_volatile v bytes exact on in
+    let both = counted_same r.counter v.counter r.pcr v.pcr counter fit.counter are (pcr_are_registers v fit) (size ∙ sym (fit.registers Sha256)) behind in
+    ap (λ (x : Running). Some x) (same_running r (record { draws = v.draws; counter = v.counter; pcr = v.pcr }) same_draws both.0 both.1)
+    ∙ sym (ap (λ (b : Bool). cond b (Some (record { draws = v.draws; counter = v.counter; pcr = v.pcr })) None) on)
 
 pub stopped_read : (v : TpmParts) (bytes : List ℕ) → TellsVolatile bytes v → eqb (get_or bytes 9 0) 1 ≡ false → running_in v ≡ None
 stopped_read v bytes exact flag =
@@ -145,17 +141,16 @@ counted_in_saved v state bytes exact is =
     let there : is_some v.saved ≡ true = ap (λ (saved : Option SavedParts). is_some saved) is in
     sym (drop-drop 1 9 bytes) ∙ ap (drop 1) (ap (drop 9) (decoded_saved v bytes exact there) ∙ saved_body_read v ∙ ap (λ (saved : Option SavedParts). saved_body saved) is)
 
-state_read : (v : TpmParts) (saved : Option SavedParts) (bytes : List ℕ) (r : SavedParts) → v.saved ≡ saved → IfSome saved IsKept → is_some saved ≡ true → TellsSaved bytes v
-    → r.counter ≡ from_be_bytes w32 (slice bytes 10 4) → concat r.pcr ≡ slice bytes 14 512 → AreRegisters r.pcr → length r.pcr ≡ 16 → Some r ≡ saved
-state_read v None bytes r is kept there exact counter pcr are size = absurd cc
-state_read v (Some state) bytes r is kept there exact counter pcr are size =
-    let behind = counted_in_saved v state bytes exact is in
-    ap (λ (x : SavedParts). Some x) (same_state r state (counter ∙ counter_read state.counter state.pcr bytes 10 kept.counter behind)
-    (registers_read state.counter state.pcr r.pcr bytes 10 16 behind (kept_are_registers state kept) (kept.registers Sha256) are size pcr))
+state_read : (v : TpmParts) (saved : Option SavedParts) (bytes : List ℕ) (r : SavedParts) → v.saved ≡ saved → IfSome saved IsKept → is_some saved ≡ true → TellsSaved bytes v → r.counter < 2 ^ 32
+    → AreRegisters 32 r.pcr → length r.pcr ≡ 16 → drop 10 bytes ≡ counted r.counter r.pcr → Some r ≡ saved
+state_read v None bytes r is kept there exact counter are size body = absurd cc
+state_read v (Some state) bytes r is kept there exact counter are size body =
+    let both = counted_same r.counter state.counter r.pcr state.pcr counter kept.counter are (kept_are_registers state kept) (size ∙ sym (kept.registers Sha256)) (sym body ∙ counted_in_saved v state bytes exact is) in
+    ap (λ (x : SavedParts). Some x) (same_state r state both.0 both.1)
 
-pub saved_state_read : (v : TpmParts) (bytes : List ℕ) (r : SavedParts) → IsValid v → TellsSaved bytes v → eqb (get_or bytes 9 0) 1 ≡ true
-    → r.counter ≡ from_be_bytes w32 (slice bytes 10 4) → concat r.pcr ≡ slice bytes 14 512 → AreRegisters r.pcr → length r.pcr ≡ 16 → Some r ≡ v.saved
-saved_state_read v bytes r fit exact flag counter pcr are size = state_read v v.saved bytes r refl fit.kept_fits (sym (saved_read v bytes exact) ∙ flag) exact counter pcr are size
+pub saved_state_read : (v : TpmParts) (bytes : List ℕ) (r : SavedParts) → IsValid v → TellsSaved bytes v → eqb (get_or bytes 9 0) 1 ≡ true → r.counter < 2 ^ 32
+    → AreRegisters 32 r.pcr → length r.pcr ≡ 16 → drop 10 bytes ≡ counted r.counter r.pcr → Some r ≡ v.saved
+saved_state_read v bytes r fit exact flag counter are size body = state_read v v.saved bytes r refl fit.kept_fits (sym (saved_read v bytes exact) ∙ flag) exact counter are size body
 
 is_none : (saved : Option SavedParts) → is_some saved ≡ false → saved ≡ None
 is_none None off = refl

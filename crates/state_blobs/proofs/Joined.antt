@@ -1,10 +1,8 @@
 -- A TPM put together from three blobs.
-use Rattle.std.proofs.Common.{◌≡◌, ℕ, ◌+◌, ◌<◌, ◌≤◌, ◌^◌, Bool, true, false, cond, eqb, List, [], ◌∷◌, ◌++◌, length, take, drop, get_or, replicate, Option, Some, None, refl, sym, ap, subst, ◌∙◌, arith, inl, inr}
+use Rattle.std.proofs.Common.{◌≡◌, ℕ, ◌+◌, ◌≤◌, Bool, true, false, cond, eqb, List, [], ◌∷◌, ◌++◌, length, take, drop, get_or, replicate, Option, Some, None, refl, sym, ap, subst, ◌∙◌, arith, inl, inr}
 use Rattle.std.specs.Prelude.{IfSome, IfNone, IsSome, is_some}
-use Rattle.std.specs.Int.{w32, from_be_bytes}
 use Rattle.std.specs.List.{concat}
 use Rattle.std.proofs.lemmas.List.{length-append, length-take, length-drop, get_or-append-add, get_or-drop}
-use Rattle.std.proofs.lemmas.Nat.{from_be_bytes-to_be_bytes_4}
 use Rattle.std.proofs.Math.Seq.{take-add, take-append-add}
 use Rattle.vt_base.specs.Numbers.{number}
 use Rattle.vt_base.specs.declared.types.Kind.{Kind}
@@ -17,14 +15,13 @@ use Rattle.tpm_core.specs.Fresh.{manufactured}
 use Rattle.tpm_core.specs.Answers.{kept}
 use Rattle.tpm_core.specs.Steps.{IsValid, IsKept, IsConsistent}
 use Rattle.state_blobs.specs.declared.read.Running.{Running}
-use Rattle.state_blobs.specs.Running.{AreRegisters}
 use Rattle.state_blobs.specs.Encodings.{header_of, with_header, counted, saved_body, encode_blob, slice, IsBlob}
 use Rattle.state_blobs.specs.Refusals.{FirstDiffersAt}
 use Rattle.state_blobs.specs.Assembly.{TellsVolatile, TellsSaved, IsNoneOrBlob, IsAssembled, Disagrees}
 use Rattle.state_blobs.specs.Reading.{running_in, parts_with}
-use Rattle.state_blobs.proofs.Registers.{AreRegisters-take, same_registers, concat-take}
+use Rattle.state_blobs.proofs.Registers.{AreRegisters-take, concat-take}
 use Rattle.state_blobs.proofs.Bodies.{pcr_are_registers, kept_are_registers, length-counted, length-kept, fit_stopped}
-use Rattle.state_blobs.proofs.Fields.{same_state, started_read, saved_read, no_state_read, counted_in_volatile, counted_in_saved}
+use Rattle.state_blobs.proofs.Fields.{counted_same, same_state, started_read, saved_read, no_state_read, counted_in_volatile, counted_in_saved}
 
 -- the values of one, what a second has while it runs, and the saved state of a third
 abbrev joined : TpmParts → TpmParts → TpmParts → TpmParts
@@ -69,19 +66,12 @@ differs_behind n i bytes wanted le first =
       differs = λ e. first.differs (get_or-drop n bytes i 0 ∙ e ∙ ap (λ (k : ℕ). get_or (take n bytes ++ wanted) (k + i) 0) (sym size) ∙ get_or-append-add (take n bytes) wanted i 0);
     }
 
--- a counter and registers are determined by their bytes
-pub counted_same : (c d : ℕ) (xs ys : List (List ℕ)) → c < 2 ^ 32 → d < 2 ^ 32 → AreRegisters xs → AreRegisters ys → length xs ≡ length ys → counted c xs ≡ counted d ys → (c ≡ d) × (xs ≡ ys)
-counted_same c d xs ys below below_too are are_too size same = (
-  sym (from_be_bytes-to_be_bytes_4 c below) ∙ ap (λ (bytes : List ℕ). from_be_bytes w32 (take 4 bytes)) same ∙ from_be_bytes-to_be_bytes_4 d below_too,
-  same_registers xs ys are are_too size (ap (drop 4) same),
-)
-
 -- the part of a started TPM's blob that a saved state repeats
 kept_slice : (v : TpmParts) (bytes : List ℕ) → IsValid v → TellsVolatile bytes v → v.started ≡ true → slice bytes 18 516 ≡ counted v.counter (take 16 v.pcr)
 kept_slice v bytes fit exact on =
     ap (take 516) (counted_in_volatile v bytes exact on)
     ∙ take-append-add (number v.counter) (concat v.pcr) 512
-    ∙ ap (λ (rest : List ℕ). number v.counter ++ rest) (sym (concat-take 16 v.pcr (pcr_are_registers v fit)))
+    ∙ ap (λ (rest : List ℕ). number v.counter ++ rest) (sym (concat-take 32 16 v.pcr (pcr_are_registers v fit)))
 
 length-kept_pcr : (v : TpmParts) → IsValid v → length (take 16 v.pcr) ≡ 16
 length-kept_pcr v fit = omega (arith, length-take 16 v.pcr, fit.registers Sha256)
@@ -90,7 +80,7 @@ agrees_with : (v z : TpmParts) (state : Option SavedParts) (volatile saved : Lis
     → drop 10 saved ≡ slice volatile 18 516 → IfSome state (λ state. state ≡ kept v)
 agrees_with v z None volatile saved fit exact on decoded_too is are same = tt
 agrees_with v z (Some state) volatile saved fit exact on decoded_too is are same =
-    let both = counted_same state.counter v.counter state.pcr (take 16 v.pcr) are.counter fit.counter (kept_are_registers state are) (AreRegisters-take 16 v.pcr (pcr_are_registers v fit))
+    let both = counted_same state.counter v.counter state.pcr (take 16 v.pcr) are.counter fit.counter (kept_are_registers state are) (AreRegisters-take 32 16 v.pcr (pcr_are_registers v fit))
     (are.registers Sha256 ∙ sym (length-kept_pcr v fit)) (sym (counted_in_saved z state saved decoded_too is) ∙ same ∙ kept_slice v volatile fit exact on) in
     same_state state (kept v) both.0 both.1
 
@@ -122,7 +112,7 @@ header_read z bytes fit is there = ap (take 10) is ∙ header_and_flag z.saved f
 agreeing_text : (v : TpmParts) → IsValid v → encode_blob Saved (record v { saved = Some (kept v) }) ≡ header_of Saved 517 ++ 1 ∷ [] ++ counted v.counter (take 16 v.pcr)
 unfolding encode_blob
 agreeing_text v fit =
-    let size : length (saved_body (Some (kept v))) ≡ 517 = omega (arith, length-counted v.counter (take 16 v.pcr) (AreRegisters-take 16 v.pcr (pcr_are_registers v fit)), length-kept_pcr v fit) in
+    let size : length (saved_body (Some (kept v))) ≡ 517 = omega (arith, length-counted v.counter (take 16 v.pcr) (AreRegisters-take 32 16 v.pcr (pcr_are_registers v fit)), length-kept_pcr v fit) in
     ap (λ (n : ℕ). header_of Saved n ++ 1 ∷ [] ++ counted v.counter (take 16 v.pcr)) size
 
 pub disagrees : (place : ℕ) (volatile saved : List ℕ) → IsNoneOrBlob Volatile volatile → IsNoneOrBlob Saved saved → eqb (get_or volatile 9 0) 1 ≡ true → eqb (get_or saved 9 0) 1 ≡ true

@@ -1,12 +1,12 @@
-pub mod Opens
 pub mod Magics
 pub mod Registers
 pub mod Bodies
 pub mod Refused
 pub mod Decoding
+pub mod Places
+pub mod Values
 pub mod Fields
 pub mod Joined
 pub mod Once
 pub mod Apart
-pub mod MagicRead
 pub mod Sizes

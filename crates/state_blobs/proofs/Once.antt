@@ -14,8 +14,7 @@ use Rattle.state_blobs.specs.Encodings.{encode_blob, slice, slices}
 use Rattle.state_blobs.specs.Running.{SameRunning}
 use Rattle.state_blobs.specs.Assembly.{TellsVolatile, TellsSaved, IsAssembled}
 use Rattle.state_blobs.proofs.Bodies.{pcr_are_registers, kept_are_registers}
-use Rattle.state_blobs.proofs.Fields.{seed_read, boots_read, started_read, saved_read, draws_read, counted_in_volatile, counted_in_saved, same_state}
-use Rattle.state_blobs.proofs.Joined.{counted_same}
+use Rattle.state_blobs.proofs.Fields.{seed_read, boots_read, started_read, saved_read, draws_read, counted_in_volatile, counted_in_saved, counted_same, same_state}
 
 pub seed_once : (v w : TpmParts) → IsValid v → IsValid w → encode_blob Permanent v ≡ encode_blob Permanent w → v.seed ≡ w.seed
 seed_once v w fit fit_too same = sym (seed_read v (encode_blob Permanent v) fit refl) ∙ seed_read w (encode_blob Permanent v) fit_too same

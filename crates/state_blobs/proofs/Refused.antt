@@ -1,9 +1,8 @@
 -- What is decoded as refused is refused by the table, and the other way round.
-use Rattle.std.proofs.Common.{◌≡◌, ◌≢◌, ℕ, ◌+◌, ◌-◌, ◌<◌, ◌≤◌, suc, Bool, true, false, cond, List, [], ◌∷◌, ◌++◌, length, take, drop, get_or, Ok, Err, refl, sym, ap, subst, ◌∙◌, arith, inl, inr, ◌⊎◌, append_assoc, zero-add}
+use Rattle.std.proofs.Common.{◌≡◌, ◌≢◌, ℕ, ◌+◌, ◌-◌, ◌<◌, ◌≤◌, suc, Bool, true, false, cond, List, [], ◌∷◌, ◌++◌, length, take, drop, get_or, Ok, Err, refl, sym, ap, subst, ◌∙◌, arith, inl, inr, ◌⊎◌, zero-add}
 use Rattle.std.specs.Int.{w32, from_be_bytes}
 use Rattle.std.proofs.Math.Seq.{take-add}
-use Rattle.std.proofs.lemmas.List.{length-append, length-take, length-drop, take_at, take-append-drop, take-append-le, get_or_append_left, take_more, get_or-drop, drop-drop}
-use Rattle.vt_base.specs.Numbers.{IsBytes}
+use Rattle.std.proofs.lemmas.List.{length-append, length-take, length-drop, take-append-le, get_or_append_left, take_more, get_or-drop, drop-drop}
 use Rattle.vt_base.specs.Layout.{Layout, Ends, Field, Encodes, number_then}
 use Rattle.vt_base.specs.Refusing.{malformed, refuse}
 use Rattle.vt_base.proofs.Numbers.{encodes_field}
@@ -18,7 +17,6 @@ use Rattle.state_blobs.specs.Blobs.{Ending, body_then, after_magic, blob}
 use Rattle.state_blobs.specs.Refusals.{FirstDiffersAt, BeginsAsBlob, length_field, IsRefusedFor, IsRefused}
 use Rattle.vt_base.proofs.Magics.{magic_byte_encodes, magic_encode}
 use Rattle.state_blobs.proofs.Magics.{magic_byte_refuses, magic_byte_cases, magic_refuse, magic_cases}
-use Rattle.state_blobs.proofs.Bodies.{decoded_is_blob}
 
 -- ---- from what is decoded to the table
 
@@ -148,23 +146,3 @@ refused_is_decoded kind Length place bytes row = inl (subst (λ (p : ℕ). IsDec
 refused_is_decoded kind Value place bytes row = inl (subst (λ (p : ℕ). IsDecoded kind Value p bytes) (sym row.0) (exact_value kind bytes row.1 row.2 row.3 row.4))
 refused_is_decoded kind Cut place bytes row = absurd row
 refused_is_decoded kind Extra place bytes row = inr (row.0, row.1, refl)
-
--- ---- for a gather
-
-rejoined : (begun piece : List ℕ) (used : ℕ) → (begun ++ take used piece) ++ drop used piece ≡ begun ++ piece
-rejoined begun piece used = append_assoc begun (take used piece) (drop used piece) ∙ ap (λ (r : List ℕ). begun ++ r) (take-append-drop used piece)
-
-pub field_refused : (kind : Kind) (fault : Malformed) (begun piece : List ℕ) (used : ℕ) → Encodes (blob kind) (Err fault) (begun ++ take used piece) → IsRefused kind fault (begun ++ piece)
-field_refused kind fault begun piece used spelled =
-    subst (IsRefused kind fault) (rejoined begun piece used) (prefix_refused kind fault (begun ++ take used piece) (drop used piece) spelled)
-
--- bytes behind a blob
-pub byte_behind : (kind : Kind) (begun piece : List ℕ) (n : ℕ) → 0 < length piece → n ≡ length begun → IsBytes begun → Encodes (blob kind) (Ok tt) begun → IsRefused kind (malformed Extra n) (begun ++ piece)
-byte_behind kind begun piece n some is fits spelled =
-    (omega (arith, length-append begun piece, is, some), subst (IsBlob kind) (sym (take_at begun piece n (sym is))) (decoded_is_blob kind begun fits spelled))
-
-pub byte_left : (kind : Kind) (begun piece : List ℕ) (used n : ℕ) → used < length piece → n ≡ length begun + used → IsBytes (begun ++ take used piece) → Encodes (blob kind) (Ok tt) (begun ++ take used piece)
-    → IsRefused kind (malformed Extra n) (begun ++ piece)
-byte_left kind begun piece used n less is fits spelled =
-    subst (IsRefused kind (malformed Extra n)) (rejoined begun piece used)
-    (byte_behind kind (begun ++ take used piece) (drop used piece) n (omega (arith, length-drop used piece)) (omega (arith, is, less, length-append begun (take used piece), length-take used piece)) fits spelled)

@@ -4,6 +4,7 @@ pub mod Encodings
 pub mod Blobs
 pub mod Room
 pub mod Refusals
+pub mod Partial
 pub mod Gathering
 pub mod Assembly
 pub mod Reading

@@ -1,16 +1,17 @@
-//! The text of a blob, byte by byte from the values. So a piece needs no copy of the blob.
+//! A blob, byte by byte from the values of a TPM. So a piece needs no copy of the blob.
 
 ghost use Rattle.std.specs.Prelude.{◌≡◌, ◌<◌, ◌≤◌, length, slice_index};
-ghost use Rattle.vt_base.specs.Numbers.{long};
 ghost use Rattle.tpm_core.specs.Steps.{IsValid};
-ghost use Rattle.state_blobs.specs.Encodings.{body_of, permanent_body, volatile_body, saved_body, counted, header_of, encode_blob};
+ghost use Rattle.state_blobs.specs.Encodings.{body_of, permanent_body, volatile_body, saved_body, header_of, encode_blob};
 
 use crate::blobs::magic;
+use crate::counted::counted_byte;
 use crate::format::{
-    COUNTER_SIZE, DRAWS_SIZE, FLAG_ALONE, HEADER_SIZE, PERMANENT_LENGTH, SAVED_LENGTH, VERSION,
-    VOLATILE_LENGTH,
+    BOOTS_PLACE, DRAWS_PLACE, FLAG_ALONE, HEADER_SIZE, KEPT_PLACE, PERMANENT_LENGTH, RUNNING_PLACE,
+    SAVED_LENGTH, VERSION, VOLATILE_LENGTH,
 };
-use tpm_core::{SEED_SIZE, SHA256_DIGEST_SIZE, SavedParts, TpmParts};
+use crate::numbers::long_byte;
+use tpm_core::{SavedParts, TpmParts};
 use vt_base::Kind;
 
 /// How many bytes of body the blob of a kind has.
@@ -66,10 +67,10 @@ fn permanent_byte(parts: &TpmParts, i: usize) -> u8
     requires { i < length (permanent_body parts.now) }
     ensures { result ≡ slice_index (permanent_body parts.now) i }
 {
-    if i < SEED_SIZE {
+    if i < BOOTS_PLACE {
         parts.seed[i]
     } else {
-        long_byte(parts.boots, i - SEED_SIZE)
+        long_byte(parts.boots, i - BOOTS_PLACE)
     }
 }
 
@@ -79,12 +80,12 @@ fn volatile_byte(parts: &TpmParts, i: usize) -> u8
 {
     if !parts.started {
         0
-    } else if i == 0 {
+    } else if i < DRAWS_PLACE {
         1
-    } else if i <= DRAWS_SIZE {
-        long_byte(parts.draws, i - 1)
+    } else if i < RUNNING_PLACE {
+        long_byte(parts.draws, i - DRAWS_PLACE)
     } else {
-        counted_byte(parts.counter, &parts.pcr, i - 1 - DRAWS_SIZE)
+        counted_byte(parts.counter, &parts.pcr, i - RUNNING_PLACE)
     }
 }
 
@@ -94,26 +95,7 @@ fn saved_byte(saved: &Option<SavedParts>, i: usize) -> u8
 {
     match saved {
         None => 0,
-        Some(_) if i == 0 => 1,
-        Some(state) => counted_byte(state.counter, &state.pcr, i - 1),
+        Some(_) if i < KEPT_PLACE => 1,
+        Some(state) => counted_byte(state.counter, &state.pcr, i - KEPT_PLACE),
     }
-}
-
-/// A byte of a counter with the registers behind it.
-fn counted_byte(counter: u32, registers: &[[u8; SHA256_DIGEST_SIZE]], i: usize) -> u8
-    requires { i < length (counted counter registers.now) }
-    ensures { result ≡ slice_index (counted counter registers.now) i }
-{
-    if i < COUNTER_SIZE {
-        return counter.to_be_bytes()[i];
-    }
-    let k = i - COUNTER_SIZE;
-    registers[k / SHA256_DIGEST_SIZE][k % SHA256_DIGEST_SIZE]
-}
-
-fn long_byte(n: u64, k: usize) -> u8
-    requires { k < 8 }
-    ensures { result ≡ slice_index (long n) k }
-{
-    n.to_be_bytes()[k]
 }

@@ -1,4 +1,4 @@
-//! The numbers of the format of blobs.
+//! The numbers of the format of blobs, and the table of its places.
 
 use tpm_core::{KEPT_PCR_COUNT, SEED_SIZE, SHA256_DIGEST_SIZE};
 
@@ -6,10 +6,10 @@ use tpm_core::{KEPT_PCR_COUNT, SEED_SIZE, SHA256_DIGEST_SIZE};
 pub const VERSION: u8 = 1;
 
 /// Where the version stands.
-pub const VERSION_PLACE: u32 = 4;
+pub const VERSION_PLACE: usize = 4;
 
 /// Where the length stands: the number of bytes that follow it.
-pub const LENGTH_PLACE: u32 = 5;
+pub const LENGTH_PLACE: usize = 5;
 
 /// How many bytes stand before the body: a magic, the version and the length.
 pub const HEADER_SIZE: usize = 9;
@@ -17,25 +17,22 @@ pub const HEADER_SIZE: usize = 9;
 /// Where the flag of a volatile or a saved blob stands, the first byte of its body.
 pub const FLAG_PLACE: usize = HEADER_SIZE;
 
-/// Where the count of boots stands in a permanent blob, behind the seed.
-pub const BOOTS_PLACE: usize = HEADER_SIZE + SEED_SIZE;
+/// Where the count of boots stands in a permanent body, behind the seed.
+pub const BOOTS_PLACE: usize = SEED_SIZE;
 
-/// Where the count of draws stands in a volatile blob, behind the flag.
-pub const DRAWS_PLACE: usize = FLAG_PLACE + 1;
+/// Where the count of draws stands in a volatile body, behind the flag.
+pub const DRAWS_PLACE: usize = 1;
 
-/// How many bytes the count of draws has.
-pub const DRAWS_SIZE: usize = 8;
+/// Where the counter stands in a volatile body, behind the eight bytes of draws; its registers follow it.
+pub const RUNNING_PLACE: usize = DRAWS_PLACE + 8;
 
-/// Where the counter of a volatile blob stands; its registers follow it.
-pub const RUNNING_PLACE: usize = DRAWS_PLACE + DRAWS_SIZE;
-
-/// Where the counter of a saved state stands in its blob, behind the flag; its registers follow it.
-pub const SAVED_PLACE: usize = FLAG_PLACE + 1;
+/// Where the counter stands in a saved body, behind the flag; its registers follow it.
+pub const KEPT_PLACE: usize = 1;
 
 /// How many bytes a counter has.
 pub const COUNTER_SIZE: usize = 4;
 
-/// How many bytes of a blob the counter and the registers of a saved state are.
+/// How many bytes the counter and the registers of a saved state have.
 pub const KEPT_SIZE: usize = COUNTER_SIZE + SHA256_DIGEST_SIZE * KEPT_PCR_COUNT;
 
 /// How many bytes of body a permanent blob has: the seed and the count of boots.

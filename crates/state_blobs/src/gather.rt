@@ -1,53 +1,45 @@
 //! A blob gathered from pieces.
 
-ghost use Rattle.std.specs.Prelude.{◌≡◌, ◌≤◌, ◌++◌, ◌↔◌, length, [], true, false, IsTrue, IfOk, IfErr, OnOk, OnErr, Ok};
+ghost use Rattle.std.specs.Prelude.{◌≡◌, ◌≤◌, ◌-◌, ◌++◌, ◌↔◌, length, take, drop, [], false, IsTrue, IfOk, IfErr, OnOk, OnErr};
 ghost use Rattle.std.specs.Bool.{OnTrue, OnFalse};
-ghost use Rattle.vt_base.specs.Numbers.{IsBytes};
-ghost use Rattle.vt_base.specs.Layout.{IsOpen, Encodes};
-ghost use Rattle.vt_base.specs.Refusing.{malformed};
+ghost use Rattle.state_blobs.specs.Assembly.{cut_at};
 ghost use Rattle.state_blobs.specs.Encodings.{IsBlob};
-ghost use Rattle.state_blobs.specs.Blobs.{blob};
+ghost use Rattle.state_blobs.specs.Partial.{body_in, AreValid};
 ghost use Rattle.state_blobs.specs.Refusals.{IsRefused, IsCut};
-ghost use Rattle.vt_base.specs.declared.types.Why.TheVariants.{Extra};
 
-use crate::blobs::Blobs;
-use crate::format::LARGEST_BLOB;
+use crate::body_fields::Fields;
+use crate::reading::{Reading, is_whole, read_bytes, unread};
+use crate::types::BlobFault;
 use std::alloc::{AllocError, Global};
 use std::marker::Model;
-use vt_base::{ByteBuf, Kind, Malformed, Why};
+use vt_base::{Kind, Malformed, Why};
 
 /// Gathers the blob of one kind from pieces; seen as its kind, the bytes so far, and whether they are the whole blob.
 #[derive(Drop)]
 pub struct Gather {
     kind: Kind,
-    held: Box<ByteBuf<LARGEST_BLOB>>,
-    whole: bool,
+    reading: Box<Reading>,
 }
 
 impl Model for Gather {
-    ghost use Rattle.std.specs.Prelude.{Ok};
-    ghost use Rattle.std.specs.Bool.{OnTrue, OnFalse};
-    ghost use Rattle.vt_base.specs.Layout.{IsOpen, Encodes};
-    ghost use Rattle.state_blobs.specs.Blobs.{blob};
+    ghost use Rattle.state_blobs.specs.Partial.{bytes_read, is_whole, IsReading};
     ghost use Rattle.state_blobs.specs.Gathering.{Gathering};
 
     ghost Value = { Gathering };
 
-    ghost view = { λ g. record { kind = g.kind; begun = g.held.value; whole = g.whole } };
+    ghost view = { λ g. record { kind = g.kind; begun = bytes_read g.kind g.reading.value; whole = is_whole g.reading.value } };
 
-    ghost invariant = { λ g. OnFalse g.whole (IsOpen (blob g.kind) g.held.value) × OnTrue g.whole (Encodes (blob g.kind) (Ok tt) g.held.value) };
+    ghost invariant = { λ g. IsReading g.kind g.reading.value };
 }
 
 impl Gather {
     /// Nothing of a blob of this kind.
-    #[tactic(auto, using(crate::proofs::Opens::open_nil))]
     pub fn new(alloc: Global, kind: Kind) -> Result<Gather, AllocError>
         ensures { IfOk result (λ g. g ≡ record { kind = kind; begun = []; whole = false }) }
     {
         Ok(Gather {
             kind,
-            held: Box::new(alloc, ByteBuf::new())?,
-            whole: false,
+            reading: Box::new(alloc, unread())?,
         })
     }
 
@@ -58,16 +50,12 @@ impl Gather {
         self.kind
     }
 
-    /// The bytes so far; every clause of a gather speaks of them.
-    #[tactic(auto, using(crate::proofs::Decoding::blob_if_whole, crate::proofs::Decoding::cut_if_not))]
-    pub(crate) fn begun(&self) -> &[u8]
-        ensures bytes { result.now ≡ self.now.begun }
-        ensures fits { IsBytes self.now.begun }
-        ensures blob { OnTrue self.now.whole (IsBlob self.now.kind self.now.begun) }
-        ensures cut { OnFalse self.now.whole (IsCut self.now.kind self.now.begun) }
-        ensures within_limit { length self.now.begun ≤ 790 }
+    /// The fields whose bytes came so far.
+    pub(crate) fn fields(&self) -> &Fields
+        ensures body { drop 9 self.now.begun ≡ take (length self.now.begun - 9) (body_in self.now.kind result.now) }
+        ensures valid { AreValid result.now }
     {
-        self.held.as_slice()
+        &self.reading.fields
     }
 
     /// How many bytes came so far.
@@ -75,35 +63,50 @@ impl Gather {
         ensures count { result ≡ length self.now.begun }
         ensures most { result ≤ 790 }
     {
-        self.held.as_slice().len()
+        self.reading.place
     }
 
     /// Whether the blob is whole.
     pub fn is_whole(&self) -> bool
         ensures { result ≡ self.now.whole }
     {
-        self.whole
+        is_whole(&self.reading)
     }
 
     /// Whether there is no byte yet.
     pub fn is_empty(&self) -> bool
         ensures { IsTrue result ↔ (self.now.begun ≡ []) }
     {
-        self.held.as_slice().is_empty()
+        self.reading.place == 0
+    }
+
+    /// Refuses a blob that isn't whole.
+    pub(crate) fn check_whole(&self) -> Result<(), BlobFault>
+        ensures blob { OnOk result (IsBlob self.now.kind self.now.begun) }
+        ensures fault { IfErr result (λ fault. fault ≡ cut_at self.now.kind self.now.begun) }
+        ensures cut { OnErr result (IsCut self.now.kind self.now.begun) }
+    {
+        if is_whole(&self.reading) {
+            return Ok(());
+        }
+        Err(BlobFault {
+            kind: self.kind,
+            fault: Malformed {
+                why: Why::Cut,
+                place: self.len() as u32,
+            },
+        })
     }
 
     /// Forgets all bytes.
-    #[tactic(auto, using(crate::proofs::Opens::open_nil))]
     pub fn clear(&mut self)
         ensures { self.new ≡ record self.old { begun = []; whole = false } }
     {
-        self.held.clear();
-        self.whole = false;
+        self.reading.place = 0;
     }
 
     /// Takes a piece, and answers whether the blob is whole. An empty piece changes nothing. A piece is taken whole or, where
     /// a byte of it is refused, not at all.
-    #[tactic(auto, using(crate::proofs::Decoding::blob_if_decoded, crate::proofs::Decoding::cut_if_not))]
     pub fn push(&mut self, bytes: &[u8]) -> Result<bool, Malformed>
         ensures ok { IfOk result (λ whole. self.new ≡ record self.old { begun = self.old.begun ++ bytes.now; whole = whole }) }
         ensures whole { IfOk result (λ whole. OnTrue whole (IsBlob self.old.kind (self.old.begun ++ bytes.now))) }
@@ -112,50 +115,7 @@ impl Gather {
         ensures err { OnErr result (self.new ≡ self.old) }
         ensures kind { self.new.kind ≡ self.old.kind }
     {
-        self.advance(bytes)
-    }
-
-    #[tactic(auto, using(crate::proofs::Opens::open_nil))]
-    fn advance(&mut self, bytes: &[u8]) -> Result<bool, Malformed>
-        ensures ok { IfOk result (λ whole. self.new ≡ record self.old { begun = self.old.begun ++ bytes.now; whole = whole }) }
-        ensures fits { OnOk result (IsBytes (self.old.begun ++ bytes.now)) }
-        ensures part { IfOk result (λ whole. OnFalse whole (IsOpen (blob self.old.kind) (self.old.begun ++ bytes.now))) }
-        ensures whole { IfOk result (λ whole. OnTrue whole (Encodes (blob self.old.kind) (Ok tt) (self.old.begun ++ bytes.now))) }
-        ensures refused { IfErr result (λ fault. IsRefused self.old.kind fault (self.old.begun ++ bytes.now)) }
-        ensures err { OnErr result (self.new ≡ self.old) }
-        ensures kind { self.new.kind ≡ self.old.kind }
-    {
-        let before = self.held.as_slice().len();
-        if bytes.is_empty() {
-            return Ok(self.whole);
-        }
-        if self.whole {
-            return Err(extra(before));
-        }
-        let (used, end) = self.held.feed(&Blobs(self.kind), bytes);
-        let Some(end) = end else {
-            return Ok(false);
-        };
-        if let Err(fault) = end {
-            self.held.truncate(before);
-            return Err(fault);
-        }
-        let total = self.held.as_slice().len();
-        if used < bytes.len() {
-            self.held.truncate(before);
-            return Err(extra(total));
-        }
-        self.whole = true;
-        Ok(true)
-    }
-}
-
-fn extra(place: usize) -> Malformed
-    requires { place ≤ 790 }
-    ensures { result ≡ malformed Extra place }
-{
-    Malformed {
-        why: Why::Extra,
-        place: place as u32,
+        read_bytes(&mut self.reading, self.kind, bytes)?;
+        Ok(self.is_whole())
     }
 }

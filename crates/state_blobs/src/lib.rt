@@ -19,15 +19,20 @@
 
 mod assembly;
 mod blobs;
+mod body_fields;
+mod counted;
 mod encode;
 mod format;
 mod gather;
 pub mod laws;
+mod numbers;
 mod pieces;
 mod read;
+mod reading;
 mod types;
 
 pub use assembly::assemble;
+pub use blobs::{is_length, magic};
 pub use format::LARGEST_BLOB;
 pub use gather::Gather;
 pub use pieces::piece;

@@ -6,12 +6,12 @@ use Rattle.state_blobs.proofs.assembly.joined.Goals as goal
 
 pub of_parts-requires : goal.of_parts-requires
 of_parts-requires c =
-    (put_together c.args.permanent.now c.args.volatile.now c.args.saved.now _ _ _ _ c.parts_with-parts.result c.requires.permanent c.requires.volatile c.requires.saved c.in_default.ensures.agrees
+    (put_together c.args.p.now.begun c.args.v.now.begun c.args.z.now.begun _ _ _ _ c.parts_with-parts.result c.requires.permanent c.requires.volatile c.requires.saved c.in_default.ensures.agrees
     c.permanent_of-boots.ensures.seed c.permanent_of-boots.ensures.boots c.running_of.ensures c.saved_of.ensures c.parts_with-parts.ensures).0
 
 pub returns-clause-ok : goal.returns-clause-ok
 returns-clause-ok c =
-    let all = put_together c.args.permanent.now c.args.volatile.now c.args.saved.now _ _ _ _ c.parts_with-parts.result c.requires.permanent c.requires.volatile c.requires.saved c.in_default.ensures.agrees
+    let all = put_together c.args.p.now.begun c.args.v.now.begun c.args.z.now.begun _ _ _ _ c.parts_with-parts.result c.requires.permanent c.requires.volatile c.requires.saved c.in_default.ensures.agrees
     c.permanent_of-boots.ensures.seed c.permanent_of-boots.ensures.boots c.running_of.ensures c.saved_of.ensures c.parts_with-parts.ensures in
     let fit : IsValid c.parts_with-parts.result = subst IsValid c.of_parts.ensures.parts c.of_parts.ensures.fit in
-    subst (IsAssembled c.args.permanent.now c.args.volatile.now c.args.saved.now) (sym c.of_parts.ensures.parts) (all.1 fit)
+    subst (IsAssembled c.args.p.now.begun c.args.v.now.begun c.args.z.now.begun) (sym c.of_parts.ensures.parts) (all.1 fit)
