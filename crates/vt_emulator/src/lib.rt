@@ -13,7 +13,7 @@
 //! }
 //! ```
 //!
-//! What each whole message does is defined in `ctrl_client`, beside what a host may expect of it: each call here is one
+//! What each whole message does is defined in `ctrl_model`, beside what a host may expect of it: each call here is one
 //! step of those definitions, or none while no message is whole. The messages are after swtpm's manual; their bodies, the
 //! states and the results are our own. All memory is taken when an emulator is made. Who brings the bytes, and in which
 //! order the two channels are served, is left to others.
@@ -24,7 +24,10 @@ mod commands;
 mod desk;
 mod emulator;
 mod emulator_core;
+mod held_command;
 pub mod laws;
+mod power;
+mod state_blob;
 
 pub use desk::{Desk, Heard};
 pub use emulator::Emulator;
