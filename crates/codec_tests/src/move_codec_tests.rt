@@ -6,7 +6,7 @@ ghost use Rattle.move_codec.specs.Encoding.{HasPiece};
 use move_codec::*;
 use std::alloc::{AllocError, Global};
 use std::test::*;
-use vt_base::{Bytes, HostName, Malformed, Why};
+use vt_base::{Bytes, HostName, Malformed, Reason, Why};
 
 /// An Offer to B in epoch 1 of 23, 49, 10 and 10 bytes.
 const OFFER: [u8; 35] = [

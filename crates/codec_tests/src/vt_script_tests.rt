@@ -1,10 +1,9 @@
 ghost use Rattle.vt_script.specs.Replies.{IsPrintable};
 
 use crb_regs::Access;
-use move_codec::Reason;
 use std::alloc::{AllocError, Global};
 use std::test::Fail;
-use vt_base::{Bytes, HostName};
+use vt_base::{Bytes, HostName, Reason};
 use vt_script::*;
 
 // Offset, size and value of the access that a line asks for.

@@ -36,7 +36,7 @@ use Rattle.saved_stream.proofs.Apart.{AreWhole}
 use Rattle.saved_stream.proofs.Once.{parts_whole, stream_head, stream_parts}
 
 -- a header, and as many bytes behind it as it gives
-record IsHeaded (part : Part) (bytes : List ℕ) : Type 0 where
+pub record IsHeaded (part : Part) (bytes : List ℕ) : Type 0 where
   pub long : 9 ≤ length bytes
   pub is : is_header part (take 9 bytes) ≡ true
   pub size : length bytes ≡ 9 + length_field (take 9 bytes)
@@ -115,7 +115,7 @@ headed_record bytes v within_limit is =
 -- ---- the walk
 
 module _ (k : LawsOfParts) where
-  headed : (part : Part) (bytes : List ℕ) → IsWhole part bytes → IsHeaded part bytes
+  pub headed : (part : Part) (bytes : List ℕ) → IsWhole part bytes → IsHeaded part bytes
   headed Record bytes (v, is) = headed_record bytes v ((laws_of k Record).within_limit bytes (v, is)) is
   headed (Blob kind) bytes is = headed_blob kind bytes (k.blob_decoded kind bytes is)
 
@@ -134,7 +134,7 @@ module _ (k : LawsOfParts) where
         subst (λ (t : Bool). Encodes (cond t (Field count (λ _. parts_then ps)) (Ends false)) true (drop 9 bytes)) (sym test) walked,
       )
 
-  begins_head : (bytes : List ℕ) → HasHead bytes → begins magic (take 9 bytes) ≡ true
+  pub begins_head : (bytes : List ℕ) → HasHead bytes → begins magic (take 9 bytes) ≡ true
   begins_head bytes h =
       let prefix : take 9 bytes ≡ begin ++ take 4 (drop 5 bytes) = take-add 5 4 bytes ∙ ap (λ (f : List ℕ). f ++ take 4 (drop 5 bytes)) h.begins in
       ap (begins magic) prefix

@@ -1,5 +1,6 @@
 pub mod Apart
 pub mod Asked
+pub mod Wanting
 pub mod Behind
 pub mod Ends
 pub mod Heads

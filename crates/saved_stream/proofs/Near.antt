@@ -69,7 +69,7 @@ content_near f within_limit = (within_limit, λ content. either_near (ends_in_ze
 few_of : (size count : ℕ) → size ≤ 3982 → not (eqb (14 + count) size) ≡ false → count ≤ 3968
 few_of size count le is = grind (arith, nat_tests)
 
-abbrev idle_next : Fields → Layout Ending
+abbrev pub idle_next : Fields → Layout Ending
 idle_next f = cond (is_idle f.regs.phase && nat_lt 0 f.count) (refuse Value 21) (content_then f)
 
 count_near : (size : ℕ) (regs : Regs) (cancelled : Bool) (number : ℕ) → size ≤ 3982 → IsNear (count_then size regs cancelled number) 3970
@@ -81,7 +81,7 @@ count_near size regs cancelled number le = (
       either_near (is_idle regs.phase && nat_lt 0 f.count) (refuse Value 21) (content_then f) 3968 (λ _. omega arith) (λ _. content_near f (few_of size f.count le is))),
 )
 
-abbrev magic_byte_next : ℕ → Regs → Bool → Layout Ending
+abbrev pub magic_byte_next : ℕ → Regs → Bool → Layout Ending
 magic_byte_next size regs cancelled = cond (cancelled && not (is_executing regs.phase)) (refuse Value 12) (long_then (λ number. count_then size regs cancelled number))
 
 job_near : (size : ℕ) (regs : Regs) → size ≤ 3982 → IsNear (job_then size regs) 3979
@@ -92,13 +92,13 @@ job_near size regs le = (
       (λ _. (omega arith, λ field. count_near size regs cancelled (from_be_bytes w64 field) le))),
 )
 
-abbrev phase_next : ℕ → Bool → Bool → Phase → Layout Ending
+abbrev pub phase_next : ℕ → Bool → Bool → Phase → Layout Ending
 phase_next size granted cancel phase = job_then size (record { granted = granted; cancel = cancel; phase = phase })
 
-abbrev cancel_next : ℕ → Bool → Bool → Layout Ending
+abbrev pub cancel_next : ℕ → Bool → Bool → Layout Ending
 cancel_next size granted cancel = byte_then (λ code. value_then (phase_at code) 11 (phase_next size granted cancel))
 
-abbrev granted_next : ℕ → Bool → Layout Ending
+abbrev pub granted_next : ℕ → Bool → Layout Ending
 granted_next size granted = flag_then 10 (cancel_next size granted)
 
 registers_near : (size : ℕ) → size ≤ 3982 → IsNear (registers_then size) 3982

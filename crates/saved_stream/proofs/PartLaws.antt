@@ -1,7 +1,8 @@
 -- What the crates below prove of the parts of a stream, as one.
-use Rattle.std.proofs.Common.{◌≡◌, ◌≢◌, ℕ, ◌<◌, ◌≤◌, List, [], ◌∷◌, ◌++◌, length, take, drop, Err, refl, sym, ap, subst, ◌∙◌, arith, inl, inr, append_assoc}
+use Rattle.std.proofs.Common.{◌≡◌, ◌≢◌, ℕ, ◌<◌, ◌≤◌, List, [], ◌∷◌, ◌++◌, length, take, drop, Ok, Err, refl, sym, ap, subst, ◌∙◌, arith, inl, inr, append_assoc}
 use Rattle.std.proofs.lemmas.List.{length-append, length-take, take_at, take-append-drop, take-append-le, take_all, append-nil}
 use Rattle.std.proofs.lemmas.Bool.{cases_order}
+use Rattle.vt_base.specs.Numbers.{IsBytes}
 use Rattle.vt_base.specs.Layout.{Encodes}
 use Rattle.vt_base.specs.Refusing.{malformed}
 use Rattle.vt_base.specs.declared.types.Kind.{Kind}
@@ -33,9 +34,11 @@ pub record LawsOfParts : Type 0 where
   pub record_once : (f g : Malformed) (bytes : List ℕ) → layouts.IsRefused f bytes → layouts.IsRefused g bytes → f ≡ g
   pub record_prefixes : (v : DeviceValues) (n : ℕ) → AreValid v → n < length (encode_record v) → layouts.IsRefused (malformed Cut n) (take n (encode_record v))
   pub record_stays : (fault : Malformed) (bytes more : List ℕ) → layouts.IsRefused fault bytes → fault.why ≢ Cut → layouts.IsRefused fault (bytes ++ more)
+  pub record_cut : (fault : Malformed) (bytes : List ℕ) → layouts.IsRefused fault bytes → fault.why ≡ Cut → layouts.AreCut fault bytes
   pub record_values : (v w : DeviceValues) → AreValid v → AreValid w → encode_record v ≡ encode_record w → v ≡ w
   pub blob_not_refused : BlobNotRefused
   pub blob_decoded : BlobIsDecoded
+  pub blob_spelled : (kind : Kind) (bytes : List ℕ) → IsBytes bytes → Encodes (blob kind) (Ok tt) bytes → IsBlob kind bytes
   pub blob_once : (kind : Kind) (f g : Malformed) (bytes : List ℕ) → IsRefused kind f bytes → IsRefused kind g bytes → f ≡ g
   pub blob_prefixes : (kind : Kind) (bytes : List ℕ) (n : ℕ) → IsBlob kind bytes → n < length bytes → IsCut kind (take n bytes)
   pub blob_refused : (kind : Kind) (fault : Malformed) (bytes : List ℕ) → IsRefused kind fault bytes → fault.why ≢ Extra → (n : ℕ) × Encodes (blob kind) (Err fault) (take n bytes)

@@ -1,5 +1,5 @@
 -- How many bytes to ask for next: the headers of a stream, one after the other. (Own definitions.)
-use Rattle.std.specs.Prelude.{ℕ, ◌==◌, ◌&&◌, nat_le, nat_eq, if◌then◌else◌, Bool, true, false, List, [], ◌∷◌, slice_index, Result, Ok, Err}
+use Rattle.std.specs.Prelude.{ℕ, ◌<◌, ◌==◌, ◌&&◌, nat_le, nat_eq, if◌then◌else◌, Bool, true, false, List, [], ◌∷◌, length, take, slice_index, Result, Ok, Err}
 use Rattle.std.specs.List.{starts_with}
 use Rattle.vt_base.specs.declared.grammar.Missing.{Missing}
 use Rattle.vt_base.specs.Layout.{Layout, Ends, Field}
@@ -11,7 +11,8 @@ use Rattle.saved_stream.specs.Numbers.{format_version}
 use Rattle.saved_stream.specs.declared.part.Part.{Part}
 use Rattle.saved_stream.specs.declared.part.Part.TheVariants.{Record, Blob}
 use Rattle.saved_stream.specs.Parts.{parts}
-use Rattle.saved_stream.specs.Streams.{magic}
+use Rattle.crb_history.specs.Snapshot.{Snapshot}
+use Rattle.saved_stream.specs.Streams.{magic, IsStream}
 
 -- the magic of a part
 abbrev pub part_magic : Part → List ℕ
@@ -48,3 +49,7 @@ lack (Err missing) = missing.0
 -- how many bytes are missing of the first header or body that isn't whole
 abbrev pub wanted_after : List ℕ → ℕ
 wanted_after begin = lack (parsed walk begin)
+
+-- No stream ends before the last of these bytes: what a reader has that never took more than was wanted.
+abbrev pub EndsNoStream : List ℕ → Type 0
+EndsNoStream bytes = (place : ℕ) (b : Snapshot) → place < length bytes → IsStream (take place bytes) b → ⊥

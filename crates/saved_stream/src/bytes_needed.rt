@@ -7,7 +7,7 @@ ghost use Rattle.saved_stream.specs.Headers.{begins, is_header, parts_then, walk
 
 use crate::format::{HEADER_SIZE, LENGTH_PLACE, MAGIC, MAGIC_SIZE, VERSION};
 use crate::part::Part;
-use vt_base::{Kind, Missing, field_of};
+use vt_base::{Kind, Missing, field_of, u32_at};
 
 /// The parts, in their order.
 const PARTS: [Part; 4] = [
@@ -77,6 +77,5 @@ fn length_in(header: &[u8]) -> u32
     requires { 9 ≤ length header.now }
     ensures { result ≡ length_field header.now }
 {
-    let at = &header[LENGTH_PLACE..HEADER_SIZE];
-    u32::from_be_bytes([at[0], at[1], at[2], at[3]])
+    u32_at(header, LENGTH_PLACE)
 }

@@ -6,8 +6,8 @@ ghost use Rattle.vt_base.specs.declared.types.Why.TheVariants.{Extra};
 ghost use Rattle.state_blobs.specs.Refusals.{length_field};
 ghost use Rattle.saved_stream.specs.Refusals.{version_then, head, HasHead, IsHeadRefused};
 
-use crate::format::{HEADER_SIZE, LENGTH_PLACE, MAGIC, VERSION, VERSION_PLACE};
-use vt_base::{Malformed, Missing, Parsed, Why, behind_magic, byte_of, number_of, refused};
+use crate::format::{LENGTH_PLACE, MAGIC, VERSION, VERSION_PLACE};
+use vt_base::{Malformed, Missing, Parsed, Why, behind_magic, byte_of, number_of, refused, u32_at};
 
 fn version_of(rest: &[u8]) -> Parsed<()>
     ensures { result ≡ parsed version_then rest.now }
@@ -47,6 +47,5 @@ pub fn length_of(bytes: &[u8]) -> Result<u32, Malformed>
         Ok(Err(fault)) => return Err(fault),
         Ok(Ok(())) => {}
     }
-    let at = &bytes[LENGTH_PLACE..HEADER_SIZE];
-    Ok(u32::from_be_bytes([at[0], at[1], at[2], at[3]]))
+    Ok(u32_at(bytes, LENGTH_PLACE))
 }

@@ -1,13 +1,14 @@
 //! Laws of streams, for proofs above. Their calls do nothing.
 
-ghost use Rattle.std.specs.Prelude.{◌≡◌, ◌≢◌, ℕ, ◌+◌, ◌<◌, ◌≤◌, List, ◌++◌, length, take};
+ghost use Rattle.std.specs.Prelude.{◌≡◌, ◌≢◌, ◌⊎◌, ℕ, ◌+◌, ◌<◌, ◌≤◌, List, [], ◌++◌, length, take};
+ghost use Rattle.vt_base.specs.Numbers.{IsBytes};
 ghost use Rattle.vt_base.specs.Refusing.{malformed};
 ghost use Rattle.vt_base.specs.declared.types.Malformed.{Malformed};
 ghost use Rattle.vt_base.specs.declared.types.Why.TheVariants.{Cut, Extra};
 ghost use Rattle.crb_history.specs.Snapshot.{Snapshot, IsValidSnapshot};
 ghost use Rattle.saved_stream.specs.Streams.{with_head, encode_parts, IsStream};
 ghost use Rattle.saved_stream.specs.Refusals.{IsStreamRefused};
-ghost use Rattle.saved_stream.specs.Headers.{wanted_after};
+ghost use Rattle.saved_stream.specs.Headers.{wanted_after, EndsNoStream};
 
 /// Bytes are the stream of one device and one TPM, or they are refused for one reason at one place.
 pub fn decoding_is_unique()
@@ -28,6 +29,7 @@ pub fn decoding_is_unique()
     // A reader that asks for as many bytes as are wanted gets the stream, and no byte past it.
     ensures asks { (bytes : List ℕ) (b : Snapshot) (n : ℕ) → IsStream bytes b → n < length bytes → 0 < wanted_after (take n bytes) }
     ensures within { (bytes : List ℕ) (b : Snapshot) (n : ℕ) → IsStream bytes b → n < length bytes → n + wanted_after (take n bytes) ≤ length bytes }
+    ensures cut_wants { (bytes : List ℕ) (place : ℕ) → IsBytes bytes → IsStreamRefused (malformed Cut place) bytes → 0 < wanted_after bytes }
     ensures stops { (bytes : List ℕ) (b : Snapshot) → IsStream bytes b → wanted_after bytes ≡ 0 }
 
     // What else is refused stays so, whatever follows.
@@ -38,4 +40,17 @@ pub fn decoding_is_unique()
     device_record::laws::record_encoding_is_injective();
     state_blobs::laws::blobs_are_prefix_free();
     state_blobs::laws::tpms_are_assembled_once();
+}
+
+/// A reader that takes no more than is wanted, until nothing is or the input ends, has what it needs to tell a stream from
+/// bytes that begin with none.
+pub fn wanted_bytes_are_enough()
+    ensures start { EndsNoStream [] }
+    ensures more { (bytes more : List ℕ) → EndsNoStream bytes → length more ≤ wanted_after bytes → EndsNoStream (bytes ++ more) }
+
+    // What is refused of the bytes is refused of the whole input.
+    ensures refused { (bytes rest : List ℕ) (fault : Malformed) → IsBytes bytes → EndsNoStream bytes → (wanted_after bytes ≡ 0) ⊎ (rest ≡ [])
+        → IsStreamRefused fault bytes → IsStreamRefused fault (bytes ++ rest) × (fault.why ≢ Extra) }
+{
+    decoding_is_unique();
 }

@@ -3,10 +3,7 @@
 ghost use Rattle.std.specs.Prelude.{◌≡◌};
 ghost use Rattle.saved_stream.specs.Headers.{part_magic, may_follow};
 
-use crate::format::{
-    FLAG_ALONE, LARGEST_RECORD, PERMANENT_LENGTH, PERMANENT_MAGIC, RECORD_MAGIC, SAVED_LENGTH,
-    SAVED_MAGIC, SMALLEST_RECORD, VOLATILE_LENGTH, VOLATILE_MAGIC,
-};
+use device_record::{LARGEST_LENGTH, SMALLEST_LENGTH};
 use vt_base::Kind;
 
 /// A part of a stream.
@@ -24,10 +21,8 @@ impl Part {
         ensures { result ≡ part_magic self }
     {
         match self {
-            Part::Record => RECORD_MAGIC,
-            Part::Blob(Kind::Permanent) => PERMANENT_MAGIC,
-            Part::Blob(Kind::Volatile) => VOLATILE_MAGIC,
-            Part::Blob(Kind::Saved) => SAVED_MAGIC,
+            Part::Record => device_record::MAGIC,
+            Part::Blob(kind) => state_blobs::magic(kind),
         }
     }
 
@@ -36,10 +31,8 @@ impl Part {
         ensures { result ≡ may_follow self count }
     {
         match self {
-            Part::Record => SMALLEST_RECORD <= count && count <= LARGEST_RECORD,
-            Part::Blob(Kind::Permanent) => count == PERMANENT_LENGTH,
-            Part::Blob(Kind::Volatile) => count == FLAG_ALONE || count == VOLATILE_LENGTH,
-            Part::Blob(Kind::Saved) => count == FLAG_ALONE || count == SAVED_LENGTH,
+            Part::Record => SMALLEST_LENGTH <= count && count <= LARGEST_LENGTH,
+            Part::Blob(kind) => state_blobs::is_length(kind, count),
         }
     }
 }

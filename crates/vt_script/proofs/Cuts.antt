@@ -19,7 +19,7 @@ parts-cut separator xs at first rest after found is_first is_rest is_after =
     let past : after ≡ drop (at + 1) xs = is_after ∙ ap (drop 1) is_rest ∙ drop-drop 1 at xs in
     rw (is_first, past) (parts-Some separator xs at found)
 
-no_separator : (separator : ℕ) (xs : List ℕ) → length xs ≤ position_or_len (λ b. b == separator) xs → slice_split (λ b. b == separator) xs ≡ xs ∷ []
+pub no_separator : (separator : ℕ) (xs : List ℕ) → length xs ≤ position_or_len (λ b. b == separator) xs → slice_split (λ b. b == separator) xs ≡ xs ∷ []
 no_separator separator [] far = refl
 no_separator separator (x ∷ xs) far = go (x == separator) far (no_separator separator xs)
   where

@@ -2,3 +2,5 @@ pub mod Digits
 pub mod Cuts
 pub mod Commands
 pub mod Ordinals
+pub mod Reading
+mod ReadingRows

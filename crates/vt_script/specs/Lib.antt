@@ -2,3 +2,4 @@ pub mod Numbers
 pub mod Script
 pub mod Replies
 pub mod Drive
+pub mod Reading

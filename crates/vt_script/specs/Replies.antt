@@ -7,8 +7,8 @@ use Rattle.vt_script.specs.Numbers.{line_feed}
 use Rattle.vt_script.specs.declared.reply.Reply.{Reply}
 use Rattle.vt_script.specs.declared.reply.Reply.TheVariants.{Stopped, Value, Accepted, Idle, Claim, Sent, Exec, Done, Cancelled, Lost, Link, Asked, FailedDevice, NotYet, Reset, EpochEnd, Offered, NoMessage, Ignored, Took, SentMessage, Running, Resumed, RefusedSent, NotOffering, ResumedSent, NotPrepared, Shown}
 use Rattle.hex.specs.Hex.{encode_lower}
-use Rattle.move_codec.specs.declared.names.Reason.{Reason}
-use Rattle.move_codec.specs.declared.names.Reason.TheVariants as reason
+use Rattle.vt_base.specs.declared.types.Reason.{Reason}
+use Rattle.vt_base.specs.declared.types.Reason.TheVariants as reason
 
 -- the lower-case hexadecimal digit of a number below 16
 abbrev pub hex_digit : ℕ → ℕ

@@ -10,7 +10,7 @@ pub const SPACE: u8 = b' ';
 pub const LINE_FEED: u8 = b'\n';
 
 // The place of the first separator.
-fn place_of(separator: u8, bytes: &[u8]) -> Option<usize>
+pub fn place_of(separator: u8, bytes: &[u8]) -> Option<usize>
     ensures { result ≡ position (λ b. b == separator) bytes.now }
 {
     bytes.iter().position(|b| *b == separator)

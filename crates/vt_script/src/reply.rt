@@ -5,9 +5,8 @@ ghost use Rattle.vt_script.specs.Replies.{hex_digit, hex_digits, ended, numbered
 
 use crate::drive::print_response;
 use crate::parts::LINE_FEED;
-use move_codec::Reason;
 use std::alloc::{AllocError, Global};
-use vt_base::Bytes;
+use vt_base::{Bytes, Reason};
 
 /// The reply to one line. A number is that of a command. A `message` is the place of a message in the bag, from 1, or 0 where
 /// the bag was full.

@@ -2,6 +2,7 @@ use Rattle.saved_stream.proofs.PartLaws.{LawsOfParts}
 use Rattle.saved_stream.proofs.Decoding.{decoded_once, not_refused, refused_once, prefixes_cut, refused_stays, is_stream}
 use Rattle.saved_stream.proofs.Asked.{asks, within, stops}
 use Rattle.saved_stream.proofs.Behind.{goes_behind}
+use Rattle.saved_stream.proofs.Wanting.{cut_wants}
 use Rattle.saved_stream.proofs.laws.decoding_is_unique.Goals as goal
 
 pub returns : goal.returns
@@ -15,9 +16,11 @@ returns c =
       record_once = record_laws.refused_once;
       record_prefixes = record_laws.fronts;
       record_stays = record_laws.stays;
+      record_cut = record_laws.cut;
       record_values = c.record_encoding_is_injective.ensures.once;
       blob_not_refused = blob_laws.not_refused;
       blob_decoded = blob_laws.blob;
+      blob_spelled = blob_laws.spelled;
       blob_once = blob_laws.refused_once;
       blob_prefixes = blob_laws.fronts;
       blob_refused = blob_laws.refused;
@@ -37,5 +40,6 @@ returns c =
       asks = asks laws_of_parts;
       within = within laws_of_parts;
       stops = stops laws_of_parts;
+      cut_wants = cut_wants laws_of_parts;
       stays = refused_stays laws_of_parts;
     }
