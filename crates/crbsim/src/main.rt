@@ -16,9 +16,9 @@ const HELP: &str =
   crbsim resume        reads a saved state and then a script, and goes on as replay from that state
   crbsim check         reads a saved state, and writes how many bytes it has
   crbsim bulk N COUNT  makes lines for drive from the seed N, and writes a digest of what they give
-example: printf 'r 30 4\\n' | crbsim replay
+options: --seed HEX (64 digits) of replay, drive and suspend; --piece P (1 to 4096) of these and resume
 statuses: 0 done, 2 words, 3 line, 4 read, 5 write, 6 memory, 7 limit, 8 refused, 9 not yet
-docs/PROGRAMS.md has all lines, replies and limits.";
+example: printf 'r 30 4\\n' | crbsim replay. docs/PROGRAMS.md has all lines, replies and limits.";
 
 fn main(rt: HostRuntime) -> ExitCode {
     let status = run_with_words(&rt);
@@ -70,7 +70,7 @@ fn explanation(status: &Status) -> Option<&'static str> {
             "crbsim: the input is no saved state, or has bytes that can't stand in one. The output has the reason and the place.",
         ),
         Status::NotYet => Some(
-            "crbsim: the last command is claimed and unfinished, so nothing was saved. Add `work` lines until the reply is `done`.",
+            "crbsim: the last command is claimed and unfinished, so nothing was saved. Add up to three `work` lines at the end.",
         ),
     }
 }

@@ -70,6 +70,20 @@ const WHOLE_MOVE: &[u8] =
     b"offer\ndeliver 1\ndeliver 2\ndeliver 3\ndeliver 4\ndeliver 5\ndeliver 6\n\
 deliver 7\ndeliver 8\ndeliver 9\ndeliver 10\ndeliver 11\n";
 
+/// The messages of the move of a guest whose command waits, in pieces of one byte: the parts have 33, 49, 10 and 10 bytes.
+const SMALL_MESSAGES: usize = 207;
+
+/// A guest starts TPM2_Startup(CLEAR) and is offered.
+const STARTED: &[u8] = b"w 8 4 1\nw 40 4 1\nw 80 4 180\nw 84 4 c00\nw 88 4 4401\nw 4c 4 1\noffer\n";
+
+/// What is written for these lines.
+const OFFERED: &[u8] = b"ok\nok\nok\nok\nok\nok\noffered 1 sent 1\n";
+
+/// The command is done where the guest goes on.
+const FINISHED: &[u8] = b"work\nwork\nwork\nwork\nr 88 4\n";
+
+const FINISHED_REPLIES: &[u8] = b"running\nclaim 1\nsent 1\nexec 1\ndone 1\n00000000\n";
+
 const WORLDS: [Led; 5] = [
     (b"", Some(HostName::A), 0, 0),
     (b"offer\n", None, 1, 0),
@@ -140,6 +154,30 @@ fn bulk_script(alloc: Global, mut lines: BulkLines) -> Result<Vec<u8>, AllocErro
         }
     }
     Ok(script)
+}
+
+// The script of a move in pieces of one byte.
+fn small_pieces(alloc: Global) -> Result<Vec<u8>, AllocError> {
+    let mut script = Vec::new(alloc);
+    script.extend_from_slice(STARTED)?;
+    for message in 1..=SMALL_MESSAGES {
+        let line = format!(in alloc; "deliver {message}\n")?;
+        script.extend_from_slice(line.as_bytes())?;
+    }
+    script.extend_from_slice(FINISHED)?;
+    Ok(script)
+}
+
+// What is written for it.
+fn small_replies(alloc: Global) -> Result<Vec<u8>, AllocError> {
+    let mut replies = Vec::new(alloc);
+    replies.extend_from_slice(OFFERED)?;
+    for message in 2..=SMALL_MESSAGES {
+        let line = format!(in alloc; "sent {message}\n")?;
+        replies.extend_from_slice(line.as_bytes())?;
+    }
+    replies.extend_from_slice(FINISHED_REPLIES)?;
+    Ok(replies)
 }
 
 // What a command hands out for a script.
@@ -227,6 +265,20 @@ fn deliveries_lead_to_their_hosts(rt: HostRuntime) -> Result<(), Fail> {
     for (i, led) in WORLDS.iter().enumerate() {
         assert!(rt; is_handed_out(rt.alloc(), led)?, "world {i}");
     }
+    Ok(())
+}
+
+#[test]
+fn a_guest_moves_byte_by_byte(rt: HostRuntime) -> Result<(), Fail> {
+    let alloc = rt.alloc();
+    let mut words = Vec::new(alloc);
+    words.push(String::from_str(alloc, "replay")?)?;
+    words.push(String::from_str(alloc, "--piece=1")?)?;
+    let script = small_pieces(alloc)?;
+    let mut source = MemSource::new(Bytes::from_slice(alloc, &script)?, Vec::new(alloc));
+    let mut sink = MemSink::new(alloc, ROOM, Vec::new(alloc))?;
+    drop(run(alloc, &words, &mut source, &mut sink));
+    assert!(rt; sink.bytes() == small_replies(alloc)?.as_slice());
     Ok(())
 }
 

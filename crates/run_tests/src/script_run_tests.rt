@@ -30,6 +30,23 @@ const FRESH: [u8; 101] = [
     0x43, 0x52, 0x42, 0x5A, 1, 0, 0, 0, 1, 0,
 ];
 
+/// A seed whose bytes differ, as it is given in words.
+const SEED: &str = "000102030405060708090a0b0c0d0e0f101112131415161718191A1B1C1D1E1F";
+
+const OPTION_OF_SEED: &str =
+    "--seed=000102030405060708090a0b0c0d0e0f101112131415161718191A1B1C1D1E1F";
+
+const SEED_OF_ZEROS: &str = "0000000000000000000000000000000000000000000000000000000000000000";
+
+/// The saved stream of a host on which no line was done, over a TPM with that seed.
+const SEEDED: [u8; 101] = [
+    0x43, 0x52, 0x42, 0x53, 1, 0, 0, 0, 0x5C, // the head
+    0x43, 0x52, 0x42, 0x44, 1, 0, 0, 0, 0x0E, 0, 0, 0, 0, 0, 0, 0, 0, 0, 0, 0, 0, 0, 0, 0x43, 0x52,
+    0x42, 0x50, 1, 0, 0, 0, 0x28, 0, 1, 2, 3, 4, 5, 6, 7, 8, 9, 10, 11, 12, 13, 14, 15, 16, 17, 18,
+    19, 20, 21, 22, 23, 24, 25, 26, 27, 28, 29, 30, 31, 0, 0, 0, 0, 0, 0, 0, 1, 0x43, 0x52, 0x42,
+    0x56, 1, 0, 0, 0, 1, 0, 0x43, 0x52, 0x42, 0x5A, 1, 0, 0, 0, 1, 0,
+];
+
 /// Startup, no random bytes, a move, and 64 random bytes: a command gives at most 32.
 const MOVED: &[u8] = b"cmd 80010000000c000001440000\ncmd 80010000000c0000017b0000\nmove\n\
 cmd 80010000000c0000017b0040\n";
@@ -48,7 +65,7 @@ f62d224f499674b80f7e86caaeebab78e5ccce119c29a52e3393fb4927f8c039\n";
 const USAGE: &[u8] = b"usage: crbsim replay, drive, suspend, resume, check or bulk\n";
 
 /// Runs in which no call fails.
-const RUNS: [Run; 14] = [
+const RUNS: [Run; 28] = [
     (&["replay"], b"", Status::Ok, b""),
     (
         &["replay"],
@@ -71,6 +88,40 @@ const RUNS: [Run; 14] = [
     (&["check"], b"CRBS", Status::Refused, b"refused cut at 4\n"),
     (&["play"], b"r 0 4\n", Status::Usage, USAGE),
     (&["bulk", "1", "100001"], b"", Status::Usage, USAGE),
+    (&["replay", "--piece", "0"], b"", Status::Usage, USAGE),
+    (&["replay", "--piece", "4097"], b"", Status::Usage, USAGE),
+    (&["replay", "--piece=01"], b"", Status::Usage, USAGE),
+    (
+        &["replay", "--piece=1", "--piece", "1"],
+        b"",
+        Status::Usage,
+        USAGE,
+    ),
+    (&["replay", "--", "x"], b"", Status::Usage, USAGE),
+    (&["replay", "--seed"], b"", Status::Usage, USAGE),
+    (
+        &["resume", "--seed", SEED_OF_ZEROS],
+        b"",
+        Status::Usage,
+        USAGE,
+    ),
+    (&["check", "--piece", "1"], b"", Status::Usage, USAGE),
+    (&["replay", "--piece=1"], b"", Status::Ok, b""),
+    (&["resume", "--piece", "4096"], &FRESH, Status::Ok, b""),
+    (
+        &["drive", "--seed", SEED_OF_ZEROS, "--piece=7"],
+        MOVED,
+        Status::Ok,
+        MOVED_RESPONSES,
+    ),
+    (
+        &["suspend", "--piece", "7", OPTION_OF_SEED],
+        b"",
+        Status::Ok,
+        &SEEDED,
+    ),
+    (&["suspend", "--seed", SEED], b"", Status::Ok, &SEEDED),
+    (&["suspend", "--seed", "0001"], b"", Status::Usage, USAGE),
     (&["bulk", "1", "0"], b"", Status::Ok, BULK_1_0),
     (&["bulk", "1", "1"], b"", Status::Ok, BULK_1_1),
 ];

@@ -10,7 +10,8 @@ use Rattle.bulk_lines.specs.declared.summary.Summary.{Summary}
 use Rattle.vt_world.specs.State.{PairState}
 use Rattle.crb_port.specs.declared.job.PortState.{PortState}
 use Rattle.script_run.specs.Driven.{driven, past_of, written_for}
-use Rattle.script_run.specs.Start.{start}
+use Rattle.script_run.specs.Start.{base_of}
+use Rattle.script_run.specs.declared.start.Start.{Start}
 use Rattle.script_run.proofs.Prefixes.{DrivenOn}
 use Rattle.script_run.specs.Run.{latest_first}
 
@@ -54,8 +55,8 @@ pub length-bulk : (seed count : ℕ) → length (bulk_lines seed count) ≡ coun
 length-bulk seed count = omega (arith, length-drawn count 1 seed)
 
 -- one more line is summed up with what is written for it
-pub summed-more : (done : List DriveLine) (line : DriveLine) (was now text : List ℕ) (pair : PairState PortState) (sum : Summary) → was ≡ [] → text ≡ now → (on : DrivenOn done line was now pair)
-    → IsSummaryOf sum (command_count done + commands_of line) (move_count done + moves_of line) (driven start.tpm done ++ text) → IsSummaryOf sum (command_count (line ∷ done)) (move_count (line ∷ done)) (driven start.tpm (line ∷ done))
-summed-more done line was now text pair sum none same on summed =
-    let output : driven start.tpm done ++ text ≡ driven start.tpm (line ∷ done) = ap (λ t. driven start.tpm done ++ t) (same ∙ on.appended ∙ ap (λ w. w ++ written_for start.tpm (past_of done) line) none) in
+pub summed-more : (start : Start) (done : List DriveLine) (line : DriveLine) (was now text : List ℕ) (pair : PairState PortState) (sum : Summary) → was ≡ [] → text ≡ now → (on : DrivenOn start done line was now pair)
+    → IsSummaryOf sum (command_count done + commands_of line) (move_count done + moves_of line) (driven (base_of start).tpm done ++ text) → IsSummaryOf sum (command_count (line ∷ done)) (move_count (line ∷ done)) (driven (base_of start).tpm (line ∷ done))
+summed-more start done line was now text pair sum none same on summed =
+    let output : driven (base_of start).tpm done ++ text ≡ driven (base_of start).tpm (line ∷ done) = ap (λ t. driven (base_of start).tpm done ++ t) (same ∙ on.appended ∙ ap (λ w. w ++ written_for (base_of start).tpm (past_of done) line) none) in
     subst (λ (o : List ℕ). IsSummaryOf sum (command_count done + commands_of line) (move_count done + moves_of line) o) output summed

@@ -34,7 +34,8 @@ use Rattle.vt_script.specs.declared.drive.DriveLine.TheVariants.{Cmd, Move}
 use Rattle.script_run.specs.Calls.{Calls, IsAtRest, IsWaiting, Responds}
 use Rattle.script_run.specs.Placed.{pieces_of_move}
 use Rattle.script_run.specs.Loop.{HasDriven}
-use Rattle.script_run.specs.Start.{start}
+use Rattle.script_run.specs.Start.{base_of}
+use Rattle.script_run.specs.declared.start.Start.{Start}
 use Rattle.script_run.proofs.Prefixes.{driven-start}
 
 -- ---- accesses
@@ -70,13 +71,13 @@ AccessesKeepPlaces =
     (piece : ℕ) (s : Placement) (old new : PairState PortState) (a : Access) (value : ℕ) → IsMovable piece s old → PairLeads old a value new → IsMovable piece s new
 
 -- so do any accesses
-pub place-kept : AccessesKeepPlaces → (s : Placement) (xs : List Exchange) (old new : PairState PortState) → IsMovable 4096 s old → Reaches PairLeads old xs new → IsMovable 4096 s new
-place-kept keeps s [] old new movable is = subst (IsMovable 4096 s) is movable
-place-kept keeps s (x ∷ xs) old new movable (next, leads, rest) = place-kept keeps s xs next new (keeps 4096 s old next x.access x.value movable leads) rest
+pub place-kept : AccessesKeepPlaces → (piece : ℕ) (s : Placement) (xs : List Exchange) (old new : PairState PortState) → IsMovable piece s old → Reaches PairLeads old xs new → IsMovable piece s new
+place-kept keeps piece s [] old new movable is = subst (IsMovable piece s) is movable
+place-kept keeps piece s (x ∷ xs) old new movable (next, leads, rest) = place-kept keeps piece s xs next new (keeps piece s old next x.access x.value movable leads) rest
 
-pub place-answers : AccessesKeepPlaces → (s : Placement) (command : List ℕ) (polls : ℕ) (response : List ℕ) (old new : PairState PortState) → IsMovable 4096 s old → AnswersCall PairLeads old command polls response new → IsMovable 4096 s new
-place-answers keeps s command polls response old new movable answers =
-    place-kept keeps s (run_accesses command answers.runs.seen ++ finish_accesses answers.ctrl_sts (number (length response)) response) old new movable answers.runs.reaches
+pub place-answers : AccessesKeepPlaces → (piece : ℕ) (s : Placement) (command : List ℕ) (polls : ℕ) (response : List ℕ) (old new : PairState PortState) → IsMovable piece s old → AnswersCall PairLeads old command polls response new → IsMovable piece s new
+place-answers keeps piece s command polls response old new movable answers =
+    place-kept keeps piece s (run_accesses command answers.runs.seen ++ finish_accesses answers.ctrl_sts (number (length response)) response) old new movable answers.runs.reaches
 
 -- ---- the host whose guest runs
 
@@ -140,23 +141,23 @@ rests-on b p old new rest follows = record {
 }
 
 -- the buffer of the guest's device begins with zeros
-pub begins-with-zeros : start.device.phase ≡ Idle → start.device.content ≡ zeros 3968
-unfolding start
-begins-with-zeros idle = refl
+pub begins-with-zeros : (start : Start) → (base_of start).device.phase ≡ Idle → (base_of start).device.content ≡ zeros 3968
+unfolding base_of
+begins-with-zeros start idle = refl
 
-pub waits-on : (p : History) (s : Placement) (lost : Option ℕ) (old new : PairState PortState) (waits : IsWaiting p s old) → pieces_at 4096 (running_world old) ≡ pieces_of_move (tpm_at start p)
-    → IsMovable 4096 (moved (pieces_at 4096 (running_world old)) lost s) new → RefinesOneHost start waits.rest.after.host (running_world new) → IsWaiting p (moved (pieces_of_move (tpm_at start p)) lost s) new
-waits-on p s lost old new waits pieces movable follows = record {
-  rest = rests-on start p (running_world old) (running_world new) waits.rest follows;
-  movable = subst (λ (n : ℕ). IsMovable 4096 (moved n lost s) new) pieces movable;
+pub waits-on : (start : Start) (p : History) (s : Placement) (lost : Option ℕ) (old new : PairState PortState) (waits : IsWaiting start p s old) → pieces_at start.piece (running_world old) ≡ pieces_of_move start.piece (tpm_at (base_of start) p)
+    → IsMovable start.piece (moved (pieces_at start.piece (running_world old)) lost s) new → RefinesOneHost (base_of start) waits.rest.after.host (running_world new) → IsWaiting start p (moved (pieces_of_move start.piece (tpm_at (base_of start) p)) lost s) new
+waits-on start p s lost old new waits pieces movable follows = record {
+  rest = rests-on (base_of start) p (running_world old) (running_world new) waits.rest follows;
+  movable = subst (λ (n : ℕ). IsMovable start.piece (moved n lost s) new) pieces movable;
 }
 
 -- ---- one line
 
 -- a command was done
-pub called_responds : (p : History) (s : Placement) (command response old new : List ℕ) (was w : PairState PortState) → IsWaiting p s was → Calls start p command response (running_world w)
-    → ((place : Placement) → IsMovable 4096 place was → IsMovable 4096 place w) → new ≡ old ++ hex_line response → Responds p s (Cmd command) old new w
-called_responds p s command response old new was w waits calls keeps appended = record {
+pub called_responds : (start : Start) (p : History) (s : Placement) (command response old new : List ℕ) (was w : PairState PortState) → IsWaiting start p s was → Calls (base_of start) p command response (running_world w)
+    → ((place : Placement) → IsMovable start.piece place was → IsMovable start.piece place w) → new ≡ old ++ hex_line response → Responds start p s (Cmd command) old new w
+called_responds start p s command response old new was w waits calls keeps appended = record {
   history = calls.history;
   waits = record { rest = calls.rest; movable = keeps s waits.movable };
   past = calls.past;
@@ -164,12 +165,12 @@ called_responds p s command response old new was w waits calls keeps appended = 
 }
 
 -- the guest was moved
-pub moved_responds : (p : History) (s : Placement) (old : List ℕ) (w : PairState PortState) → IsWaiting p (moved (pieces_of_move (tpm_at start p)) None s) w → Responds p s Move old old w
-moved_responds p s old w waits = record { history = p; waits = waits; past = refl; appended = sym (append-nil old) }
+pub moved_responds : (start : Start) (p : History) (s : Placement) (old : List ℕ) (w : PairState PortState) → IsWaiting start p (moved (pieces_of_move start.piece (tpm_at (base_of start) p)) None s) w → Responds start p s Move old old w
+moved_responds start p s old w waits = record { history = p; waits = waits; past = refl; appended = sym (append-nil old) }
 
 -- ---- the beginning
 
 -- the hosts that were made wait for the first line
-pub made : {E : Type 0} (r : Result (PairState PortState) E) → IfOk r (λ w. Refines start [] (world_of w.a)) → IfOk r (IsMovable 4096 first_placement) → IfOk r (HasDriven [])
-made (Ok w) follows movable = driven-start w (subst (Refines start []) (sym (world-of-running w A movable.placed.running)) follows) movable
-made (Err fault) follows movable = tt
+pub made : {E : Type 0} (start : Start) (r : Result (PairState PortState) E) → IfOk r (λ w. Refines (base_of start) [] (world_of w.a)) → IfOk r (IsMovable start.piece first_placement) → IfOk r (HasDriven start [])
+made start (Ok w) follows movable = driven-start start w (subst (Refines (base_of start) []) (sym (world-of-running w A movable.placed.running)) follows) movable
+made start (Err fault) follows movable = tt

@@ -20,7 +20,8 @@ use Rattle.script_run.specs.Placed.{HaveDriven, placed}
 use Rattle.script_run.specs.Loop.{HasDriven, DrivesAt, EndsHere, StandsAt}
 use Rattle.script_run.specs.Output.{SinkView, Finishes, Tells}
 use Rattle.script_run.specs.Run.{in_order, meanings, spelled}
-use Rattle.script_run.specs.Start.{start}
+use Rattle.script_run.specs.Start.{base_of}
+use Rattle.script_run.specs.declared.start.Start.{Start}
 use Rattle.script_run.specs.declared.action.Action.{Action}
 use Rattle.script_run.specs.declared.action.Action.TheVariants.{Replay, Drive, Suspend, Resume, Check}
 use Rattle.script_run.proofs.Guests.{world-of-running, tpm-known}
@@ -50,18 +51,18 @@ hands-less More Less _ end less none = none
 
 -- whatever the input, that is known of what is handed out
 pub end-of-some : (action : Action) (input : List ℕ) (status : Status) (end : End) → EndOf action input status end → HasEnd action status end
-end-of-some Replay input status end ends = hands-less (HandsWorld start input) IsWorld status end (λ e hands. (hands.world, hands.is)) ends
-end-of-some Resume input status end ends = hands-less (HandsResumed input) IsWorld status end (λ e hands. (hands.hands.world, hands.hands.is)) ends
-end-of-some Drive input status end ends = hands-less (HandsPair (AreDriveLines input)) IsPair status end (λ e hands. (hands.pair, hands.is)) ends
-end-of-some Suspend input status end none = none
+end-of-some (Replay start) input status end ends = hands-less (HandsWorld (base_of start) start.piece input) IsWorld status end (λ e hands. (hands.world, hands.is)) ends
+end-of-some (Resume piece) input status end ends = hands-less (HandsResumed piece input) IsWorld status end (λ e hands. (hands.hands.world, hands.hands.is)) ends
+end-of-some (Drive start) input status end ends = hands-less (HandsPair start (AreDriveLines input)) IsPair status end (λ e hands. (hands.pair, hands.is)) ends
+end-of-some (Suspend start) input status end none = none
 end-of-some Check input status end none = none
 
 -- where a run didn't end well nothing is handed out
 pub end-of-none : (action : Action) (status : Status) → status ≢ Ok → HasEnd action status Nothing
-end-of-none Replay status not_ok = nothing-out IsWorld status not_ok
-end-of-none Resume status not_ok = nothing-out IsWorld status not_ok
-end-of-none Drive status not_ok = nothing-out IsPair status not_ok
-end-of-none Suspend status not_ok = refl
+end-of-none (Replay start) status not_ok = nothing-out IsWorld status not_ok
+end-of-none (Resume piece) status not_ok = nothing-out IsWorld status not_ok
+end-of-none (Drive start) status not_ok = nothing-out IsPair status not_ok
+end-of-none (Suspend start) status not_ok = refl
 end-of-none Check status not_ok = refl
 
 -- an input that can't be read
@@ -104,42 +105,42 @@ ends-early IsBad Pends number pending status a b (inr (inl finishes)) = finishes
 ends-early IsBad Pends number pending status a b (inr (inr ends)) = λ ok. fault-is (sym ends.0 ∙ ok)
 
 -- the hosts that did these lines are those that are handed out
-pub have-driven : (lines : List DriveLine) (pair : PairState PortState) → HasDriven lines pair → HaveDriven lines pair
-have-driven lines pair driven =
+pub have-driven : (start : Start) (lines : List DriveLine) (pair : PairState PortState) → HasDriven start lines pair → HaveDriven start lines pair
+have-driven start lines pair driven =
     let placement = driven.waits.movable.placed in
-    let same = world-of-running pair (placed lines).running placement.running in
+    let same = world-of-running pair (placed start lines).running placement.running in
     record {
       placement = placement;
-      tpm = ap (λ (w : WorldState). w.link.emulator.tpm) (sym same) ∙ tpm-known start driven.history (running_world pair) driven.waits.rest ∙ ap (λ past. Some (values_after start.tpm past)) driven.past;
+      tpm = ap (λ (w : WorldState). w.link.emulator.tpm) (sym same) ∙ tpm-known (base_of start) driven.history (running_world pair) driven.waits.rest ∙ ap (λ past. Some (values_after (base_of start).tpm past)) driven.past;
     }
 
-pub hands-pair : (AreAll : List DriveLine → Type 0) (lines : List DriveLine) (pair : PairState PortState) → AreAll lines → HasDriven lines pair → HandsPair AreAll (Pair pair)
-hands-pair AreAll lines pair all driven = record { lines = lines; pair = pair; is = refl; all = all; driven = have-driven lines pair driven }
+pub hands-pair : (start : Start) (AreAll : List DriveLine → Type 0) (lines : List DriveLine) (pair : PairState PortState) → AreAll lines → HasDriven start lines pair → HandsPair start AreAll (Pair pair)
+hands-pair start AreAll lines pair all driven = record { lines = lines; pair = pair; is = refl; all = all; driven = have-driven start lines pair driven }
 
 -- all lines of the script are done
-pub all-lines : (script rest : List ℕ) (lines : List DriveLine) (pair : PairState PortState) → DrivesAt script rest lines pair → rest ≡ [] → AreDriveLines script lines
-all-lines script rest lines pair drives end = sym (drives.done ∙ ap (λ (left : List ℕ). in_order spelled lines ++ meanings drive_of left) end ∙ append-nil (in_order spelled lines))
+pub all-lines : (start : Start) (script rest : List ℕ) (lines : List DriveLine) (pair : PairState PortState) → DrivesAt start script rest lines pair → rest ≡ [] → AreDriveLines script lines
+all-lines start script rest lines pair drives end = sym (drives.done ∙ ap (λ (left : List ℕ). in_order spelled lines ++ meanings drive_of left) end ∙ append-nil (in_order spelled lines))
 
 -- ---- a world
 
 -- the world that did all lines is the one that is handed out
-pub hands-world : (b : Snapshot) (script rest : List ℕ) (t : Transcript) (world : TwoSeats) → StandsAt b script rest t world → rest ≡ [] → HandsWorld b script (World world)
-hands-world b script rest t world stands end = record {
+pub hands-world : (b : Snapshot) (piece : ℕ) (script rest : List ℕ) (t : Transcript) (world : TwoSeats) → StandsAt b piece script rest t world → rest ≡ [] → HandsWorld b piece script (World world)
+hands-world b piece script rest t world stands end = record {
   transcript = t;
   world = world;
   is = refl;
   run = record { lines = done-prefix event_of line_of script rest t stands.lines; run = stands.runs.run };
-  all = stands-all b script rest t world stands end;
+  all = stands-all b piece script rest t world stands end;
   follows = stands.runs.follows;
 }
 
 -- what goes on from the start of an input
-pub resumed-hands : (input : List ℕ) (from : Resumption input) (status : Status) (end : End) → HandsOut (HandsWorld from.base from.script) status end → HandsOut (HandsResumed input) status end
-resumed-hands input from Ok end hands = record { from = from; hands = hands }
-resumed-hands input from _ end none = none
+pub resumed-hands : (piece : ℕ) (input : List ℕ) (from : Resumption input) (status : Status) (end : End) → HandsOut (HandsWorld from.base piece from.script) status end → HandsOut (HandsResumed piece input) status end
+resumed-hands piece input from Ok end hands = record { from = from; hands = hands }
+resumed-hands piece input from _ end none = none
 
 -- a refusal hands out nothing
-pub refused-hands : (input : List ℕ) (text : List ℕ) (status : Status) (a b : SinkView) → Tells Refused text status a b → HandsOut (HandsResumed input) status Nothing
-refused-hands input text status a b (inl (is, same)) = rw is refl
-refused-hands input text status a b (inr (inl (is, wrote))) = rw is refl
-refused-hands input text status a b (inr (inr (is, broken))) = rw is refl
+pub refused-hands : (piece : ℕ) (input : List ℕ) (text : List ℕ) (status : Status) (a b : SinkView) → Tells Refused text status a b → HandsOut (HandsResumed piece input) status Nothing
+refused-hands piece input text status a b (inl (is, same)) = rw is refl
+refused-hands piece input text status a b (inr (inl (is, wrote))) = rw is refl
+refused-hands piece input text status a b (inr (inr (is, broken))) = rw is refl

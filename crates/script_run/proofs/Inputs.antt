@@ -31,10 +31,10 @@ of-long None limit P long holds = tt
 of-long (Some input) limit P long holds = holds input long
 
 input-is : (action : Action) (input : List ℕ) → (reading_of action input).input ≡ input
-input-is Replay input = refl
-input-is Drive input = refl
-input-is Suspend input = refl
-input-is Resume input = refl
+input-is (Replay start) input = refl
+input-is (Drive start) input = refl
+input-is (Suspend start) input = refl
+input-is (Resume piece) input = refl
 input-is Check input = refl
 
 limit-is : Limit ≡ WriteFault → ⊥

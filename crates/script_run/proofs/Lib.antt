@@ -7,8 +7,11 @@ pub mod Answering
 pub mod Suspending
 pub mod Resuming
 pub mod Inputs
+pub mod Numerals
 pub mod Words
+pub mod Tasks
 pub mod Handing
 pub mod Guests
 pub mod Placing
 pub mod Bulks
+pub mod Completing

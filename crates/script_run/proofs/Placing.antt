@@ -12,6 +12,7 @@ use Rattle.vt_world.specs.Placement.{Placement, moved, top_of}
 use Rattle.script_run.specs.Calls.{CanRespond}
 use Rattle.script_run.specs.Loop.{HasDriven}
 use Rattle.script_run.specs.Placed.{placed, pieces_of_move, tpm_after}
+use Rattle.script_run.specs.declared.start.Start.{Start}
 
 record IsWithin (s : Placement) (k : ℕ) : Type 0 where
   pub a : s.top_a ≤ k
@@ -28,21 +29,22 @@ moved-within n lost s k within = by s.running refl
     by A is = record { a = rw is (omega (arith, within.a)); b = rw is (seen (loses lost 1) s.top_b s.top_a within.b within.a) }
     by B is = record { a = rw is (seen (loses lost 1) s.top_a s.top_b within.a within.b); b = rw is (omega (arith, within.b)) }
 
-placed-within : (lines : List DriveLine) → IsWithin (placed lines) (length lines)
-placed-within [] = record { a = omega arith; b = omega arith }
-placed-within (Cmd command ∷ lines) = let within = placed-within lines in record { a = omega (arith, within.a); b = omega (arith, within.b) }
-placed-within (Move ∷ lines) = moved-within (pieces_of_move (tpm_after lines)) None (placed lines) (length lines) (placed-within lines)
-placed-within (MoveFail message ∷ lines) = moved-within (pieces_of_move (tpm_after lines)) (Some message) (placed lines) (length lines) (placed-within lines)
+placed-within : (start : Start) (lines : List DriveLine) → IsWithin (placed start lines) (length lines)
+placed-within start [] = record { a = omega arith; b = omega arith }
+placed-within start (Cmd command ∷ lines) = let within = placed-within start lines in record { a = omega (arith, within.a); b = omega (arith, within.b) }
+placed-within start (Move ∷ lines) = moved-within (pieces_of_move start.piece (tpm_after start lines)) None (placed start lines) (length lines) (placed-within start lines)
+placed-within start (MoveFail message ∷ lines) = moved-within (pieces_of_move start.piece (tpm_after start lines)) (Some message) (placed start lines) (length lines) (placed-within start lines)
 
 -- so a further line can be done
-pub can-respond : (lines : List DriveLine) (pair : PairState PortState) → HasDriven lines pair → length lines < 2 ^ 64 - 1 → CanRespond pair
-can-respond lines pair driven within_limit = record {
+pub can-respond : (start : Start) (lines : List DriveLine) (pair : PairState PortState) → HasDriven start lines pair → length lines < 2 ^ 64 - 1 → CanRespond pair
+can-respond start lines pair driven within_limit = record {
+  start = start;
   history = driven.history;
-  placement = placed lines;
+  placement = placed start lines;
   waits = driven.waits;
-  more = by (placed lines).running;
+  more = by (placed start lines).running;
 }
   where
-    by : (name : HostName) → top_of name (placed lines) < 2 ^ 64 - 1
-    by A = omega (arith, within_limit, (placed-within lines).a)
-    by B = omega (arith, within_limit, (placed-within lines).b)
+    by : (name : HostName) → top_of name (placed start lines) < 2 ^ 64 - 1
+    by A = omega (arith, within_limit, (placed-within start lines).a)
+    by B = omega (arith, within_limit, (placed-within start lines).b)

@@ -24,7 +24,8 @@ use Rattle.vt_world.specs.State.{PairState}
 use Rattle.vt_world.specs.Placement.{first_placement}
 use Rattle.vt_world.specs.Movable.{IsMovable}
 use Rattle.crb_port.specs.declared.job.PortState.{PortState}
-use Rattle.script_run.specs.Start.{start, piece}
+use Rattle.script_run.specs.Start.{base_of}
+use Rattle.script_run.specs.declared.start.Start.{Start}
 use Rattle.script_run.specs.Run.{meanings, in_order, spelled, texts, followed, driven_by}
 use Rattle.script_run.specs.Loop.{AreDone, StandsAt, HasDriven, DrivesAt}
 
@@ -64,64 +65,64 @@ module _ {A L : Type 0} (grammar : List ℕ → Option L) (line : A → Option L
   done-bad text after cut bad =
       rw (done, cut, get-behind (in_order line t) (meanings grammar after) (grammar text) (length t) (sym (length-in_order line t))) (ap Some bad)
 
-pub stands-start : (b : Snapshot) (script : List ℕ) (world : TwoSeats) → RunsTo b piece [] world → StandsAt b script script [] world
-stands-start b script world runs = record { lines = refl; runs = runs }
+pub stands-start : (b : Snapshot) (piece : ℕ) (script : List ℕ) (world : TwoSeats) → RunsTo b piece [] world → StandsAt b piece script script [] world
+stands-start b piece script world runs = record { lines = refl; runs = runs }
 
 -- one more line of a replay
-pub stands-more : (b : Snapshot) (script rest : List ℕ) (t : Transcript) (old new : TwoSeats) (text after : List ℕ) (line : Line) (reply : Reply) → StandsAt b script rest t old → lines_of rest ≡ text ∷ lines_of after → event_of text ≡ Some line
-    → StepsBoth b piece (hosts_after b piece t) line reply new → StandsAt b script after (exchange line reply ∷ t) new
-stands-more b script rest t old new text after line reply stands cut is steps = record {
+pub stands-more : (b : Snapshot) (piece : ℕ) (script rest : List ℕ) (t : Transcript) (old new : TwoSeats) (text after : List ℕ) (line : Line) (reply : Reply) → StandsAt b piece script rest t old → lines_of rest ≡ text ∷ lines_of after → event_of text ≡ Some line
+    → StepsBoth b piece (hosts_after b piece t) line reply new → StandsAt b piece script after (exchange line reply ∷ t) new
+stands-more b piece script rest t old new text after line reply stands cut is steps = record {
   lines = done-more event_of line_of script rest t stands.lines (exchange line reply) text after cut is;
   runs = record { run = record { legal = steps.legal stands.runs.run.legal; in_turn = (stands.runs.run.in_turn, steps.answers) }; follows = steps.follows };
 }
 
 -- what the lines so far give
-pub stands-gives : (b : Snapshot) (script rest : List ℕ) (t : Transcript) (world : TwoSeats) → StandsAt b script rest t world → (followed b script).Gives (length t) (texts t)
-stands-gives b script rest t world stands = (t, record { lines = done-prefix event_of line_of script rest t stands.lines; run = stands.runs.run }, refl, refl)
+pub stands-gives : (b : Snapshot) (piece : ℕ) (script rest : List ℕ) (t : Transcript) (world : TwoSeats) → StandsAt b piece script rest t world → (followed b piece script).Gives (length t) (texts t)
+stands-gives b piece script rest t world stands = (t, record { lines = done-prefix event_of line_of script rest t stands.lines; run = stands.runs.run }, refl, refl)
 
-pub stands-all : (b : Snapshot) (script rest : List ℕ) (t : Transcript) (world : TwoSeats) → StandsAt b script rest t world → rest ≡ [] → length t ≡ length (lines_of script)
-stands-all b script rest t world stands end = done-all event_of line_of script rest t stands.lines end
+pub stands-all : (b : Snapshot) (piece : ℕ) (script rest : List ℕ) (t : Transcript) (world : TwoSeats) → StandsAt b piece script rest t world → rest ≡ [] → length t ≡ length (lines_of script)
+stands-all b piece script rest t world stands end = done-all event_of line_of script rest t stands.lines end
 
-pub stands-bad : (b : Snapshot) (script rest : List ℕ) (t : Transcript) (world : TwoSeats) (text after : List ℕ) → StandsAt b script rest t world → lines_of rest ≡ text ∷ lines_of after → event_of text ≡ None → (followed b script).IsBad (length t)
-stands-bad b script rest t world text after stands cut bad = done-bad event_of line_of script rest t stands.lines text after cut bad
+pub stands-bad : (b : Snapshot) (piece : ℕ) (script rest : List ℕ) (t : Transcript) (world : TwoSeats) (text after : List ℕ) → StandsAt b piece script rest t world → lines_of rest ≡ text ∷ lines_of after → event_of text ≡ None → (followed b piece script).IsBad (length t)
+stands-bad b piece script rest t world text after stands cut bad = done-bad event_of line_of script rest t stands.lines text after cut bad
 
-pub driven-start : (pair : PairState PortState) → Refines start [] (running_world pair) → IsMovable 4096 first_placement pair → HasDriven [] pair
-unfolding start
-driven-start pair follows movable = record {
+pub driven-start : (start : Start) (pair : PairState PortState) → Refines (base_of start) [] (running_world pair) → IsMovable start.piece first_placement pair → HasDriven start [] pair
+unfolding base_of
+driven-start start pair follows movable = record {
   history = [];
   waits = record {
-    rest = record { after = record { host = one_of_transcript start []; follows = follows; unordered = refl; same = refl; legal = tt }; idle = refl };
+    rest = record { after = record { host = one_of_transcript (base_of start) []; follows = follows; unordered = refl; same = refl; legal = tt }; idle = refl };
     movable = movable;
   };
   past = refl;
 }
 
-pub drives-start : (script : List ℕ) (pair : PairState PortState) → HasDriven [] pair → DrivesAt script script [] pair
-drives-start script pair first = record { done = refl; driven = first }
+pub drives-start : (start : Start) (script : List ℕ) (pair : PairState PortState) → HasDriven start [] pair → DrivesAt start script script [] pair
+drives-start start script pair first = record { done = refl; driven = first }
 
 -- one more line, and what is written for it
-pub record DrivenOn (lines : List DriveLine) (line : DriveLine) (was now : List ℕ) (pair : PairState PortState) : Type 0 where
-  pub driven : HasDriven (line ∷ lines) pair
-  pub appended : now ≡ was ++ written_for start.tpm (past_of lines) line
+pub record DrivenOn (start : Start) (lines : List DriveLine) (line : DriveLine) (was now : List ℕ) (pair : PairState PortState) : Type 0 where
+  pub driven : HasDriven start (line ∷ lines) pair
+  pub appended : now ≡ was ++ written_for (base_of start).tpm (past_of lines) line
 
-pub driven-more : (lines : List DriveLine) (old new : PairState PortState) (line : DriveLine) (was now : List ℕ) (has : HasDriven lines old) → Responds has.history (placed lines) line was now new → DrivenOn lines line was now new
-driven-more lines old new line was now has responds = record {
+pub driven-more : (start : Start) (lines : List DriveLine) (old new : PairState PortState) (line : DriveLine) (was now : List ℕ) (has : HasDriven start lines old) → Responds start has.history (placed start lines) line was now new → DrivenOn start lines line was now new
+driven-more start lines old new line was now has responds = record {
   driven = record {
     history = responds.history;
-    waits = subst (λ (past : List Entry). IsWaiting responds.history (placed_by line (pieces_of_move (values_after start.tpm past)) (placed lines)) new) has.past responds.waits;
+    waits = subst (λ (past : List Entry). IsWaiting start responds.history (placed_by line (pieces_of_move start.piece (values_after (base_of start).tpm past)) (placed start lines)) new) has.past responds.waits;
     past = responds.past ∙ ap (past_with line) has.past;
   };
-  appended = responds.appended ∙ ap (λ past. was ++ written_for start.tpm past line) has.past;
+  appended = responds.appended ∙ ap (λ past. was ++ written_for (base_of start).tpm past line) has.past;
 }
 
-pub drives-more : (script rest : List ℕ) (lines : List DriveLine) (old new : PairState PortState) (text after : List ℕ) (line : DriveLine) → DrivesAt script rest lines old → lines_of rest ≡ text ∷ lines_of after → drive_of text ≡ Some line → HasDriven (line ∷ lines) new → DrivesAt script after (line ∷ lines) new
-drives-more script rest lines old new text after line drives cut is driven = record { done = done-more drive_of spelled script rest lines drives.done line text after cut is; driven = driven }
+pub drives-more : (start : Start) (script rest : List ℕ) (lines : List DriveLine) (old new : PairState PortState) (text after : List ℕ) (line : DriveLine) → DrivesAt start script rest lines old → lines_of rest ≡ text ∷ lines_of after → drive_of text ≡ Some line → HasDriven start (line ∷ lines) new → DrivesAt start script after (line ∷ lines) new
+drives-more start script rest lines old new text after line drives cut is driven = record { done = done-more drive_of spelled script rest lines drives.done line text after cut is; driven = driven }
 
-pub drives-gives : (script rest : List ℕ) (lines : List DriveLine) (pair : PairState PortState) → DrivesAt script rest lines pair → (driven_by script).Gives (length lines) (driven_text start.tpm lines)
-drives-gives script rest lines pair drives = (lines, done-prefix drive_of spelled script rest lines drives.done, refl, refl)
+pub drives-gives : (start : Start) (script rest : List ℕ) (lines : List DriveLine) (pair : PairState PortState) → DrivesAt start script rest lines pair → (driven_by start script).Gives (length lines) (driven_text (base_of start).tpm lines)
+drives-gives start script rest lines pair drives = (lines, done-prefix drive_of spelled script rest lines drives.done, refl, refl)
 
-pub drives-all : (script rest : List ℕ) (lines : List DriveLine) (pair : PairState PortState) → DrivesAt script rest lines pair → rest ≡ [] → length lines ≡ length (lines_of script)
-drives-all script rest lines pair drives end = done-all drive_of spelled script rest lines drives.done end
+pub drives-all : (start : Start) (script rest : List ℕ) (lines : List DriveLine) (pair : PairState PortState) → DrivesAt start script rest lines pair → rest ≡ [] → length lines ≡ length (lines_of script)
+drives-all start script rest lines pair drives end = done-all drive_of spelled script rest lines drives.done end
 
-pub drives-bad : (script rest : List ℕ) (lines : List DriveLine) (pair : PairState PortState) (text after : List ℕ) → DrivesAt script rest lines pair → lines_of rest ≡ text ∷ lines_of after → drive_of text ≡ None → (driven_by script).IsBad (length lines)
-drives-bad script rest lines pair text after drives cut bad = done-bad drive_of spelled script rest lines drives.done text after cut bad
+pub drives-bad : (start : Start) (script rest : List ℕ) (lines : List DriveLine) (pair : PairState PortState) (text after : List ℕ) → DrivesAt start script rest lines pair → lines_of rest ≡ text ∷ lines_of after → drive_of text ≡ None → (driven_by start script).IsBad (length lines)
+drives-bad start script rest lines pair text after drives cut bad = done-bad drive_of spelled script rest lines drives.done text after cut bad

@@ -19,38 +19,38 @@ short_script : (input : List ℕ) (from : Resumption input) → IsShort input �
 short_script input from short long = omega (arith, short, long, ap length from.whole ∙ length-append from.stream from.script)
 
 -- the end of the lines is an end of the input
-ends_too : (input : List ℕ) (from : Resumption input) (status : Status) (output : List ℕ) → (followed from.base from.script).Ends status output → ResumesTo input status output
-ends_too input from Ok output ends = (from, ends)
-ends_too input from Usage output ends = (from, ends)
-ends_too input from Script output ends = (from, ends)
-ends_too input from ReadFault output ends = (from, ends)
-ends_too input from WriteFault output ends = (from, ends)
-ends_too input from Memory output ends = (from, ends)
-ends_too input from Limit output ends = (from, ends)
-ends_too input from NotYet output ends = (from, ends)
-ends_too input from Refused output ends = cc
+ends_too : (piece : ℕ) (input : List ℕ) (from : Resumption input) (status : Status) (output : List ℕ) → (followed from.base piece from.script).Ends status output → ResumesTo piece input status output
+ends_too piece input from Ok output ends = (from, ends)
+ends_too piece input from Usage output ends = (from, ends)
+ends_too piece input from Script output ends = (from, ends)
+ends_too piece input from ReadFault output ends = (from, ends)
+ends_too piece input from WriteFault output ends = (from, ends)
+ends_too piece input from Memory output ends = (from, ends)
+ends_too piece input from Limit output ends = (from, ends)
+ends_too piece input from NotYet output ends = (from, ends)
+ends_too piece input from Refused output ends = cc
 
-first_too : (input : List ℕ) (from : Resumption input) (output : List ℕ) → PrintsFirst (followed from.base from.script) output → PrintsFirst (resumed input) output
-first_too input from output (n, gives) = (n, (from, gives))
+first_too : (piece : ℕ) (input : List ℕ) (from : Resumption input) (output : List ℕ) → PrintsFirst (followed from.base piece from.script) output → PrintsFirst (resumed piece input) output
+first_too piece input from output (n, gives) = (n, (from, gives))
 
-to_print : (input : List ℕ) (from : Resumption input) (all : List ℕ) → IsShort input → IsToPrint (followed from.base from.script) all → IsToPrint (resumed input) all
-to_print input from all short (inl (s, first)) = inl (short, first_too input from all first)
-to_print input from all short (inr (inl (s, n, before, gives, bad, is))) = inr (inl (short, n, before, (from, gives), (from, bad), is))
-to_print input from all short (inr (inr (inl (long, is)))) = absurd (short_script input from short long)
-to_print input from all short (inr (inr (inr (status, end)))) = inr (inr (inr (status, (short, ends_too input from status all end.1))))
+to_print : (piece : ℕ) (input : List ℕ) (from : Resumption input) (all : List ℕ) → IsShort input → IsToPrint (followed from.base piece from.script) all → IsToPrint (resumed piece input) all
+to_print piece input from all short (inl (s, first)) = inl (short, first_too piece input from all first)
+to_print piece input from all short (inr (inl (s, n, before, gives, bad, is))) = inr (inl (short, n, before, (from, gives), (from, bad), is))
+to_print piece input from all short (inr (inr (inl (long, is)))) = absurd (short_script input from short long)
+to_print piece input from all short (inr (inr (inr (status, end)))) = inr (inr (inr (status, (short, ends_too piece input from status all end.1))))
 
 -- what the lines leave is what the input leaves
-pub resumed-leaves : (input : List ℕ) (from : Resumption input) (result : Status) (a b : SinkView) → IsShort input → Leaves result (followed from.base from.script) a b → Leaves result (resumed input) a b
-resumed-leaves input from Ok a b short (output, wrote, (s, ends)) = (output, wrote, (short, ends_too input from Ok output ends))
-resumed-leaves input from Refused a b short (output, wrote, (s, ends)) = (output, wrote, (short, ends_too input from Refused output ends))
-resumed-leaves input from NotYet a b short (output, wrote, (s, ends)) = (output, wrote, (short, ends_too input from NotYet output ends))
-resumed-leaves input from Script a b short (output, wrote, (s, n, before, gives, bad, is)) = (output, wrote, (short, n, before, (from, gives), (from, bad), is))
-resumed-leaves input from Limit a b short (output, wrote, (long, is)) = absurd (short_script input from short long)
-resumed-leaves input from Memory a b short (output, wrote, inl none) = (output, wrote, inl none)
-resumed-leaves input from Memory a b short (output, wrote, inr first) = (output, wrote, inr (first_too input from output first))
-resumed-leaves input from ReadFault a b short none = absurd none
-resumed-leaves input from WriteFault a b short (all, is, broken) = (all, to_print input from all short is, broken)
-resumed-leaves input from Usage a b short (output, wrote, nothing) = absurd nothing
+pub resumed-leaves : (piece : ℕ) (input : List ℕ) (from : Resumption input) (result : Status) (a b : SinkView) → IsShort input → Leaves result (followed from.base piece from.script) a b → Leaves result (resumed piece input) a b
+resumed-leaves piece input from Ok a b short (output, wrote, (s, ends)) = (output, wrote, (short, ends_too piece input from Ok output ends))
+resumed-leaves piece input from Refused a b short (output, wrote, (s, ends)) = (output, wrote, (short, ends_too piece input from Refused output ends))
+resumed-leaves piece input from NotYet a b short (output, wrote, (s, ends)) = (output, wrote, (short, ends_too piece input from NotYet output ends))
+resumed-leaves piece input from Script a b short (output, wrote, (s, n, before, gives, bad, is)) = (output, wrote, (short, n, before, (from, gives), (from, bad), is))
+resumed-leaves piece input from Limit a b short (output, wrote, (long, is)) = absurd (short_script input from short long)
+resumed-leaves piece input from Memory a b short (output, wrote, inl none) = (output, wrote, inl none)
+resumed-leaves piece input from Memory a b short (output, wrote, inr first) = (output, wrote, inr (first_too piece input from output first))
+resumed-leaves piece input from ReadFault a b short none = absurd none
+resumed-leaves piece input from WriteFault a b short (all, is, broken) = (all, to_print piece input from all short is, broken)
+resumed-leaves piece input from Usage a b short (output, wrote, nothing) = absurd nothing
 
 -- nothing stands behind the stream
 abbrev pub whole_input : (input : List ℕ) (b : Snapshot) → IsStream input b → Resumption input
@@ -65,9 +65,9 @@ pub at_end : (input : List ℕ) (fault : Malformed) → IsStreamRefused fault in
 at_end input fault refused is = subst (λ (w : Why). IsStreamRefused (malformed w fault.place) input) is refused
 
 -- the first bytes are no stream
-pub resumed-refused : (input : List ℕ) (fault : Malformed) (result : Status) (a b : SinkView) → IsShort input → IsStreamRefused fault input → fault.why ≢ Extra → Tells Refused (refused_text fault) result a b → Leaves result (resumed input) a b
-resumed-refused input fault result a b short refused other exact =
-    leaves-exact (resumed input) Refused result a b (refused_text fault) tt short (fault, (refused, other), refl) exact
+pub resumed-refused : (piece : ℕ) (input : List ℕ) (fault : Malformed) (result : Status) (a b : SinkView) → IsShort input → IsStreamRefused fault input → fault.why ≢ Extra → Tells Refused (refused_text fault) result a b → Leaves result (resumed piece input) a b
+resumed-refused piece input fault result a b short refused other exact =
+    leaves-exact (resumed piece input) Refused result a b (refused_text fault) tt short (fault, (refused, other), refl) exact
 
 -- ---- a saved stream is looked at
 

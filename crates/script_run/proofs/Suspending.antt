@@ -20,7 +20,8 @@ use Rattle.vt_seat.specs.Follows.{Refines, StepRefines}
 use Rattle.vt_seat.specs.Seats.{world_of}
 use Rattle.vt_world.specs.Saving.{CanSave, Saves}
 use Rattle.vt_seat.specs.declared.saving.Saved.TheVariants as saved
-use Rattle.script_run.specs.Start.{start, piece}
+use Rattle.script_run.specs.Start.{base_of}
+use Rattle.script_run.specs.declared.start.Start.{Start}
 use Rattle.script_run.specs.Output.{SinkView, Finishes, Tells}
 use Rattle.script_run.specs.Run.{IsShort, Leaves, in_order, meanings}
 use Rattle.script_run.specs.Saved.{plain_line, plain_event_of, AreLines, SuspendsAt, suspended, not_yet_text}
@@ -30,12 +31,12 @@ use Rattle.script_run.proofs.Endings.{leaves-nothing, leaves-end, leaves-exact}
 use Rattle.script_run.proofs.Prefixes.{done-prefix, done-more, done-bad}
 
 -- host A at the beginning
-runs_first : (b : Snapshot) (world : TwoSeats) → FollowsBoth b piece (first_hosts b) world → (Refines b [] (world_of world.a)) × (running_of world ≡ Some A)
-runs_first b world f = (record { fit = f.fit; stands = (f.seats A).stands; calls_to_fault = (f.seats A).calls_to_fault }, rw (f.seats A).stage_is refl)
+runs_first : (b : Snapshot) (piece : ℕ) (world : TwoSeats) → FollowsBoth b piece (first_hosts b) world → (Refines b [] (world_of world.a)) × (running_of world ≡ Some A)
+runs_first b piece world f = (record { fit = f.fit; stands = (f.seats A).stands; calls_to_fault = (f.seats A).calls_to_fault }, rw (f.seats A).stage_is refl)
 
-pub suspends-start : (script : List ℕ) (world : TwoSeats) → FollowsBoth start piece (first_hosts start) world → SuspendsOn script script [] [] world
-suspends-start script world f =
-    let first = runs_first start world f in
+pub suspends-start : (start : Start) (script : List ℕ) (world : TwoSeats) → FollowsBoth (base_of start) start.piece (first_hosts (base_of start)) world → SuspendsOn start script script [] [] world
+suspends-start start script world f =
+    let first = runs_first (base_of start) start.piece world f in
     record { done = refl; plain = tt; same = refl; run = record { legal = tt; in_turn = tt }; follows = first.0; here = first.1 }
 
 line_is : (x line : Line) → Some x ≡ Some line → x ≡ line
@@ -56,9 +57,9 @@ plain_by (Some (Show message)) line is = cc
 plain_by (Some (Fail host call)) line is = cc
 
 -- one more line
-pub suspends-more : (script rest : List ℕ) (lines : List Line) (t : Transcript) (old new : TwoSeats) (text after : List ℕ) (line : Line) (reply : Reply) → SuspendsOn script rest lines t old
-    → lines_of rest ≡ text ∷ lines_of after → plain_event_of text ≡ Some line → StepRefines start t line reply (world_of new.a) → running_of new ≡ running_of old → SuspendsOn script after (line ∷ lines) (exchange line reply ∷ t) new
-suspends-more script rest lines t old new text after line reply on cut is steps stays = record {
+pub suspends-more : (start : Start) (script rest : List ℕ) (lines : List Line) (t : Transcript) (old new : TwoSeats) (text after : List ℕ) (line : Line) (reply : Reply) → SuspendsOn start script rest lines t old
+    → lines_of rest ≡ text ∷ lines_of after → plain_event_of text ≡ Some line → StepRefines (base_of start) t line reply (world_of new.a) → running_of new ≡ running_of old → SuspendsOn start script after (line ∷ lines) (exchange line reply ∷ t) new
+suspends-more start script rest lines t old new text after line reply on cut is steps stays = record {
   done = done-more plain_event_of Some script rest lines on.done line text after cut is;
   plain = (on.plain, plain_by (event_of text) line is);
   same = ap (λ rest. Some line ∷ rest) on.same;
@@ -68,35 +69,35 @@ suspends-more script rest lines t old new text after line reply on cut is steps 
 }
 
 -- the lines so far give nothing
-pub suspends-gives : (script rest : List ℕ) (lines : List Line) (t : Transcript) (world : TwoSeats) → SuspendsOn script rest lines t world → (suspended script).Gives (length lines) []
-suspends-gives script rest lines t world on = (lines, done-prefix plain_event_of Some script rest lines on.done, refl, refl)
+pub suspends-gives : (start : Start) (script rest : List ℕ) (lines : List Line) (t : Transcript) (world : TwoSeats) → SuspendsOn start script rest lines t world → (suspended start script).Gives (length lines) []
+suspends-gives start script rest lines t world on = (lines, done-prefix plain_event_of Some script rest lines on.done, refl, refl)
 
 -- the first line that isn't in the grammar
-pub suspends-bad : (script rest : List ℕ) (lines : List Line) (t : Transcript) (world : TwoSeats) (text after : List ℕ) → SuspendsOn script rest lines t world → lines_of rest ≡ text ∷ lines_of after → plain_event_of text ≡ None
-    → (suspended script).IsBad (length lines)
-suspends-bad script rest lines t world text after on cut bad = done-bad plain_event_of Some script rest lines on.done text after cut bad
+pub suspends-bad : (start : Start) (script rest : List ℕ) (lines : List Line) (t : Transcript) (world : TwoSeats) (text after : List ℕ) → SuspendsOn start script rest lines t world → lines_of rest ≡ text ∷ lines_of after → plain_event_of text ≡ None
+    → (suspended start script).IsBad (length lines)
+suspends-bad start script rest lines t world text after on cut bad = done-bad plain_event_of Some script rest lines on.done text after cut bad
 
 -- all lines are done
-pub suspends-all : (script rest : List ℕ) (lines : List Line) (t : Transcript) (world : TwoSeats) → SuspendsOn script rest lines t world → rest ≡ [] → AreLines script lines
-suspends-all script rest lines t world on end =
+pub suspends-all : (start : Start) (script rest : List ℕ) (lines : List Line) (t : Transcript) (world : TwoSeats) → SuspendsOn start script rest lines t world → rest ≡ [] → AreLines script lines
+suspends-all start script rest lines t world on end =
     on.done ∙ ap (λ (left : List ℕ). in_order Some lines ++ meanings plain_event_of left) end ∙ append-nil (in_order Some lines)
 
 idle_works : Idle ≡ Lost → ⊥
 idle_works is = cc
 
 -- the host can be saved
-pub can_save : (script rest : List ℕ) (lines : List Line) (t : Transcript) (world : TwoSeats) → SuspendsOn script rest lines t world
+pub can_save : (start : Start) (script rest : List ℕ) (lines : List Line) (t : Transcript) (world : TwoSeats) → SuspendsOn start script rest lines t world
     → ((b : Snapshot) (ls : List Line) (u : Transcript) → ArePlain ls → map line_of u ≡ map Some ls → IsRun b u → u ≡ plain b ls)
     → ((b : Snapshot) (ls : List Line) → ArePlain ls → injected_fault_of (plain b ls) ≡ None)
     → ((b : Snapshot) (ls : List Line) → ArePlain ls → b.device.phase ≢ Lost → phase_of b (plain_history b ls) ≢ Lost)
-    → CanSave start t (world_of world.a)
-unfolding start
-can_save script rest lines t world on one unordered working =
-    let same : t ≡ plain start lines = one start lines t on.plain on.same on.run in
+    → CanSave (base_of start) t (world_of world.a)
+unfolding base_of
+can_save start script rest lines t world on one unordered working =
+    let same : t ≡ plain (base_of start) lines = one (base_of start) lines t on.plain on.same on.run in
     record {
       follows = on.follows;
-      unordered = ap injected_fault_of same ∙ unordered start lines on.plain;
-      working = λ lost. working start lines on.plain idle_works (ap (λ (u : Transcript). phase_of start (history start u)) (sym same) ∙ lost);
+      unordered = ap injected_fault_of same ∙ unordered (base_of start) lines on.plain;
+      working = λ lost. working (base_of start) lines on.plain idle_works (ap (λ (u : Transcript). phase_of (base_of start) (history (base_of start) u)) (sym same) ∙ lost);
     }
 
 first_runs : (a b : Bool) → (if a then Some A else (if b then Some B else None)) ≡ Some A → a ≡ true
@@ -109,22 +110,22 @@ pub runs_at_a : (world : TwoSeats) → running_of world ≡ Some A → is_runnin
 runs_at_a world is = first_runs (is_running world.a.host.stage) (is_running world.b.host.stage) is
 
 -- what is written then
-pub suspends-whole : (script rest : List ℕ) (lines : List Line) (t : Transcript) (world : TwoSeats) (stream : List ℕ) (result : Status) (a b : SinkView) → SuspendsOn script rest lines t world → rest ≡ []
-    → t ≡ plain start lines → IsShort script → Saves start t saved.Whole [] stream → Finishes Ok (stream ++ []) result a b → Leaves result (suspended script) a b
-suspends-whole script rest lines t world stream result a b on end one short saves finishes =
-    let ends : (suspended script).Ends Ok stream =
-    (lines, suspends-all script rest lines t world on end, subst (λ (u : Transcript). SuspendsAt (history start u) Ok stream) one (saves.may, saves.appended)) in
-    leaves-end (suspended script) Ok result a b stream tt short ends (subst (λ (text : List ℕ). Finishes Ok text result a b) (append-nil stream) finishes)
+pub suspends-whole : (start : Start) (script rest : List ℕ) (lines : List Line) (t : Transcript) (world : TwoSeats) (stream : List ℕ) (result : Status) (a b : SinkView) → SuspendsOn start script rest lines t world → rest ≡ []
+    → t ≡ plain (base_of start) lines → IsShort script → Saves (base_of start) t saved.Whole [] stream → Finishes Ok (stream ++ []) result a b → Leaves result (suspended start script) a b
+suspends-whole start script rest lines t world stream result a b on end one short saves finishes =
+    let ends : (suspended start script).Ends Ok stream =
+    (lines, suspends-all start script rest lines t world on end, subst (λ (u : Transcript). SuspendsAt (base_of start) (history (base_of start) u) Ok stream) one (saves.may, saves.appended)) in
+    leaves-end (suspended start script) Ok result a b stream tt short ends (subst (λ (text : List ℕ). Finishes Ok text result a b) (append-nil stream) finishes)
 
-pub suspends-early : (script rest : List ℕ) (lines : List Line) (t : Transcript) (world : TwoSeats) (number : ℕ) (stream : List ℕ) (result : Status) (a b : SinkView) → SuspendsOn script rest lines t world → rest ≡ []
-    → t ≡ plain start lines → IsShort script → Saves start t (saved.NotYet number) [] stream → Tells NotYet (not_yet_text number) result a b → Leaves result (suspended script) a b
-suspends-early script rest lines t world number stream result a b on end one short saves exact =
-    let ends : (suspended script).Ends NotYet (not_yet_text number) =
-    (lines, suspends-all script rest lines t world on end, subst (λ (u : Transcript). SuspendsAt (history start u) NotYet (not_yet_text number)) one (saves.0, ap not_yet_text saves.1)) in
-    leaves-exact (suspended script) NotYet result a b (not_yet_text number) tt short ends exact
+pub suspends-early : (start : Start) (script rest : List ℕ) (lines : List Line) (t : Transcript) (world : TwoSeats) (number : ℕ) (stream : List ℕ) (result : Status) (a b : SinkView) → SuspendsOn start script rest lines t world → rest ≡ []
+    → t ≡ plain (base_of start) lines → IsShort script → Saves (base_of start) t (saved.NotYet number) [] stream → Tells NotYet (not_yet_text number) result a b → Leaves result (suspended start script) a b
+suspends-early start script rest lines t world number stream result a b on end one short saves exact =
+    let ends : (suspended start script).Ends NotYet (not_yet_text number) =
+    (lines, suspends-all start script rest lines t world on end, subst (λ (u : Transcript). SuspendsAt (base_of start) (history (base_of start) u) NotYet (not_yet_text number)) one (saves.0, ap not_yet_text saves.1)) in
+    leaves-exact (suspended start script) NotYet result a b (not_yet_text number) tt short ends exact
 
-pub suspends-saved : (script rest : List ℕ) (lines : List Line) (t : Transcript) (world : TwoSeats) (result : Status) (a b : SinkView) → SuspendsOn script rest lines t world → rest ≡ []
-    → t ≡ plain start lines → IsShort script → WritesSaved start t result a b → Leaves result (suspended script) a b
-suspends-saved script rest lines t world result a b on end one short (inl (stream, saves, finishes)) = suspends-whole script rest lines t world stream result a b on end one short saves finishes
-suspends-saved script rest lines t world result a b on end one short (inr (inl (number, stream, saves, exact))) = suspends-early script rest lines t world number stream result a b on end one short saves exact
-suspends-saved script rest lines t world result a b on end one short (inr (inr (is, kept))) = rw (is, kept) (leaves-nothing a (suspended script))
+pub suspends-saved : (start : Start) (script rest : List ℕ) (lines : List Line) (t : Transcript) (world : TwoSeats) (result : Status) (a b : SinkView) → SuspendsOn start script rest lines t world → rest ≡ []
+    → t ≡ plain (base_of start) lines → IsShort script → WritesSaved (base_of start) t result a b → Leaves result (suspended start script) a b
+suspends-saved start script rest lines t world result a b on end one short (inl (stream, saves, finishes)) = suspends-whole start script rest lines t world stream result a b on end one short saves finishes
+suspends-saved start script rest lines t world result a b on end one short (inr (inl (number, stream, saves, exact))) = suspends-early start script rest lines t world number stream result a b on end one short saves exact
+suspends-saved start script rest lines t world result a b on end one short (inr (inr (is, kept))) = rw (is, kept) (leaves-nothing a (suspended start script))

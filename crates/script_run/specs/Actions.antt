@@ -7,8 +7,8 @@ use Rattle.script_run.specs.Saved.{suspended, resumed, checked}
 
 -- the input as the action reads it
 abbrev pub reading_of : Action → List ℕ → InputReading
-reading_of Replay input = replayed input
-reading_of Drive input = driven_by input
-reading_of Suspend input = suspended input
-reading_of Resume input = resumed input
+reading_of (Replay start) input = replayed start input
+reading_of (Drive start) input = driven_by start input
+reading_of (Suspend start) input = suspended start input
+reading_of (Resume piece) input = resumed piece input
 reading_of Check input = checked input

@@ -17,7 +17,8 @@ use Rattle.vt_world.specs.Placement.{Placement, running_top}
 use Rattle.vt_world.specs.Movable.{IsMovable}
 use Rattle.script_run.specs.Driven.{past_with, written_for}
 use Rattle.script_run.specs.Placed.{pieces_of_move, placed_by}
-use Rattle.script_run.specs.Start.{start}
+use Rattle.script_run.specs.Start.{base_of}
+use Rattle.script_run.specs.declared.start.Start.{Start}
 
 -- no command is prepared
 pub record IsAtRest (b : Snapshot) (p : History) (w : WorldState) : Type 0 where
@@ -32,20 +33,21 @@ pub record Calls (b : Snapshot) (p : History) (command response : List ℕ) (new
   pub past : executed b history ≡ Executed command ∷ executed b p
 
 -- the guest that runs waits for its next command, and can be moved from where it is placed
-pub record IsWaiting (p : History) (s : Placement) (w : PairState PortState) : Type 0 where
-  pub rest : IsAtRest start p (running_world w)
-  pub movable : IsMovable 4096 s w
+pub record IsWaiting (start : Start) (p : History) (s : Placement) (w : PairState PortState) : Type 0 where
+  pub rest : IsAtRest (base_of start) p (running_world w)
+  pub movable : IsMovable start.piece s w
 
 -- the guest waits somewhere, and the next epoch isn't the last
 pub record CanRespond (w : PairState PortState) : Type 0 where
+  pub start : Start
   pub history : History
   pub placement : Placement
-  pub waits : IsWaiting history placement w
+  pub waits : IsWaiting start history placement w
   pub more : running_top placement < 2 ^ 64 - 1
 
 -- The line was done: its command was executed and the text of the answer was appended, or the guest was moved and nothing was.
-pub record Responds (p : History) (s : Placement) (line : DriveLine) (old new : List ℕ) (w : PairState PortState) : Type 0 where
+pub record Responds (start : Start) (p : History) (s : Placement) (line : DriveLine) (old new : List ℕ) (w : PairState PortState) : Type 0 where
   pub history : History
-  pub waits : IsWaiting history (placed_by line (pieces_of_move (tpm_at start p)) s) w
-  pub past : executed start history ≡ past_with line (executed start p)
-  pub appended : new ≡ old ++ written_for start.tpm (executed start p) line
+  pub waits : IsWaiting start history (placed_by line (pieces_of_move start.piece (tpm_at (base_of start) p)) s) w
+  pub past : executed (base_of start) history ≡ past_with line (executed (base_of start) p)
+  pub appended : new ≡ old ++ written_for (base_of start).tpm (executed (base_of start) p) line

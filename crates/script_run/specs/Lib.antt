@@ -6,6 +6,7 @@ pub mod Output
 pub mod Run
 pub mod Bulk
 pub mod Words
+pub mod Reading
 pub mod Saved
 pub mod Actions
 pub mod Cursor

@@ -19,7 +19,8 @@ use Rattle.script_run.specs.Saved.{plain_event_of, not_yet_text}
 use Rattle.script_run.specs.Calls.{IsWaiting, Responds}
 use Rattle.script_run.specs.Driven.{past_of}
 use Rattle.script_run.specs.Placed.{placed}
-use Rattle.script_run.specs.Start.{start, piece}
+use Rattle.script_run.specs.Start.{base_of}
+use Rattle.script_run.specs.declared.start.Start.{Start}
 use Rattle.vt_seat.specs.Follows.{Refines}
 use Rattle.vt_seat.specs.Seats.{world_of}
 use Rattle.vt_world.specs.State.{PairState}
@@ -36,20 +37,20 @@ abbrev pub AreDone : {L : Type 0} → (List ℕ → Option L) → List ℕ → L
 AreDone grammar script rest done = meanings grammar script ≡ done ++ meanings grammar rest
 
 -- the lines of the transcript are done, and they lead the world here
-pub record StandsAt (b : Snapshot) (script rest : List ℕ) (t : Transcript) (world : TwoSeats) : Type 0 where
+pub record StandsAt (b : Snapshot) (piece : ℕ) (script rest : List ℕ) (t : Transcript) (world : TwoSeats) : Type 0 where
   pub lines : AreDone event_of script rest (in_order line_of t)
   pub runs : RunsTo b piece t world
 
 -- the commands of these lines were executed and their moves were made, and the guest waits for the next line
-pub record HasDriven (lines : List DriveLine) (pair : PairState PortState) : Type 0 where
+pub record HasDriven (start : Start) (lines : List DriveLine) (pair : PairState PortState) : Type 0 where
   pub history : History
-  pub waits : IsWaiting history (placed lines) pair
-  pub past : executed start history ≡ past_of lines
+  pub waits : IsWaiting start history (placed start lines) pair
+  pub past : executed (base_of start) history ≡ past_of lines
 
 -- these lines are done, and these bytes are left
-pub record DrivesAt (script rest : List ℕ) (lines : List DriveLine) (pair : PairState PortState) : Type 0 where
+pub record DrivesAt (start : Start) (script rest : List ℕ) (lines : List DriveLine) (pair : PairState PortState) : Type 0 where
   pub done : AreDone drive_of script rest (in_order spelled lines)
-  pub driven : HasDriven lines pair
+  pub driven : HasDriven start lines pair
 
 -- the output so far is written, but for what is pending
 pub record HasWritten (old now : SinkView) (pending output : List ℕ) : Type 0 where
@@ -58,18 +59,18 @@ pub record HasWritten (old now : SinkView) (pending output : List ℕ) : Type 0 
   pub parts : written ++ pending ≡ output
 
 -- these lines are done, which are the guest's alone, and host A is where its history leads
-pub record SuspendsOn (script rest : List ℕ) (lines : List Line) (t : Transcript) (world : TwoSeats) : Type 0 where
+pub record SuspendsOn (start : Start) (script rest : List ℕ) (lines : List Line) (t : Transcript) (world : TwoSeats) : Type 0 where
   pub done : AreDone plain_event_of script rest (in_order Some lines)
   pub plain : ArePlain lines
   pub same : map line_of t ≡ map Some lines
-  pub run : IsRun start t
-  pub follows : Refines start t (world_of world.a)
+  pub run : IsRun (base_of start) t
+  pub follows : Refines (base_of start) t (world_of world.a)
   pub here : running_of world ≡ Some A
 
 -- ---- one line
 
 -- a line of a replay was done, and its reply is pending behind what was
-pub record Replied (b : Snapshot) (t : Transcript) (text pending now : List ℕ) (new : TwoSeats) : Type 0 where
+pub record Replied (b : Snapshot) (piece : ℕ) (t : Transcript) (text pending now : List ℕ) (new : TwoSeats) : Type 0 where
   pub line : Line
   pub reply : Reply
   pub said : event_of text ≡ Some line
@@ -77,10 +78,10 @@ pub record Replied (b : Snapshot) (t : Transcript) (text pending now : List ℕ)
   pub appended : now ≡ pending ++ reply_text reply
 
 -- a drive line was done, and what is written for it is pending behind what was
-pub record Responded (p : History) (s : Placement) (text pending now : List ℕ) (new : PairState PortState) : Type 0 where
+pub record Responded (start : Start) (p : History) (s : Placement) (text pending now : List ℕ) (new : PairState PortState) : Type 0 where
   pub line : DriveLine
   pub said : drive_of text ≡ Some line
-  pub responds : Responds p s line pending now new
+  pub responds : Responds start p s line pending now new
 
 -- the run goes on: what is pending after the line, or a prefix of it, is written
 abbrev pub GoesOn : (List ℕ → Type 0) → List ℕ → SinkView → SinkView → Type 0

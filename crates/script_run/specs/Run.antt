@@ -13,7 +13,8 @@ use Rattle.vt_transcript.specs.Replies.{Transcript, line_of}
 use Rattle.two_hosts.specs.Replies.{IsRun}
 use Rattle.script_run.specs.Driven.{driven}
 use Rattle.script_run.specs.Output.{SinkView, Wrote, Breaks}
-use Rattle.script_run.specs.Start.{start, piece}
+use Rattle.script_run.specs.Start.{base_of}
+use Rattle.script_run.specs.declared.start.Start.{Start}
 
 -- what the lines of a script say in a grammar
 abbrev pub meanings : {L : Type 0} → (List ℕ → Option L) → List ℕ → List (Option L)
@@ -38,8 +39,8 @@ abbrev pub texts : Transcript → List ℕ
 texts [] = []
 texts (x ∷ t) = texts t ++ reply_text x.reply
 
--- a run from these values, between two hosts, over as many first lines of the script
-pub record IsRunOf (b : Snapshot) (script : List ℕ) (t : Transcript) : Type 0 where
+-- a run from these values, between two hosts, over as many first lines of the script; a piece has at most so many bytes
+pub record IsRunOf (b : Snapshot) (piece : ℕ) (script : List ℕ) (t : Transcript) : Type 0 where
   pub lines : in_order line_of t ≡ take (length t) (meanings event_of script)
   pub run : IsRun b piece t
 
@@ -56,32 +57,32 @@ abbrev pub GivesAll : (ℕ → List ℕ → Type 0) → List ℕ → Status → 
 GivesAll Gives script status output = (status ≡ Ok) × Gives (length (lines_of script)) output
 
 -- as a script that goes on from these values: replies of one device over one TPM, between two hosts
-abbrev pub RepliesTo : Snapshot → List ℕ → ℕ → List ℕ → Type 0
-RepliesTo b script n output = (t : Transcript) × IsRunOf b script t × (length t ≡ n) × (output ≡ texts t)
+abbrev pub RepliesTo : Snapshot → ℕ → List ℕ → ℕ → List ℕ → Type 0
+RepliesTo b piece script n output = (t : Transcript) × IsRunOf b piece script t × (length t ≡ n) × (output ≡ texts t)
 
-abbrev pub followed : Snapshot → List ℕ → InputReading
-followed b script = record {
+abbrev pub followed : Snapshot → ℕ → List ℕ → InputReading
+followed b piece script = record {
   input = script;
-  Gives = RepliesTo b script;
+  Gives = RepliesTo b piece script;
   IsBad = λ n. slice_get (meanings event_of script) n ≡ Some None;
-  Ends = GivesAll (RepliesTo b script) script;
+  Ends = GivesAll (RepliesTo b piece script) script;
 }
 
 -- as a script of `replay`
-abbrev pub replayed : List ℕ → InputReading
-replayed script = followed start script
+abbrev pub replayed : Start → List ℕ → InputReading
+replayed start script = followed (base_of start) start.piece script
 
 -- as a script of `drive`: the answers of one TPM
-abbrev pub Responses : List ℕ → ℕ → List ℕ → Type 0
-Responses script n output =
-    (lines : List DriveLine) × (in_order spelled lines ≡ take (length lines) (meanings drive_of script)) × (length lines ≡ n) × (output ≡ driven start.tpm lines)
+abbrev pub Responses : Start → List ℕ → ℕ → List ℕ → Type 0
+Responses start script n output =
+    (lines : List DriveLine) × (in_order spelled lines ≡ take (length lines) (meanings drive_of script)) × (length lines ≡ n) × (output ≡ driven (base_of start).tpm lines)
 
-abbrev pub driven_by : List ℕ → InputReading
-driven_by script = record {
+abbrev pub driven_by : Start → List ℕ → InputReading
+driven_by start script = record {
   input = script;
-  Gives = Responses script;
+  Gives = Responses start script;
   IsBad = λ n. slice_get (meanings drive_of script) n ≡ Some None;
-  Ends = GivesAll (Responses script) script;
+  Ends = GivesAll (Responses start script) script;
 }
 
 -- the input isn't too long

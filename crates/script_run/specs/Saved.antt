@@ -20,7 +20,8 @@ use Rattle.vt_transcript.specs.Replies.{is_under_way}
 use Rattle.saved_stream.specs.Streams.{encode_stream, IsStream}
 use Rattle.saved_stream.specs.Refusals.{IsStreamRefused}
 use Rattle.script_run.specs.Run.{InputReading, meanings, in_order, followed}
-use Rattle.script_run.specs.Start.{start}
+use Rattle.script_run.specs.Start.{base_of}
+use Rattle.script_run.specs.declared.start.Start.{Start}
 
 -- ---- the texts
 
@@ -69,18 +70,18 @@ AreLines script lines = meanings plain_event_of script ≡ in_order Some lines
 
 -- the saved stream of the values at the end of the one history that the lines have, or the number of the command that is
 -- claimed and unfinished then
-abbrev pub SuspendsAt : History → Status → List ℕ → Type 0
-SuspendsAt p Ok output = MaySuspend start p × (output ≡ encode_stream (snapshot_after start p))
-SuspendsAt p NotYet output = (is_under_way start p ≡ true) × (output ≡ not_yet_text (number_of start p))
-SuspendsAt p status output = ⊥
+abbrev pub SuspendsAt : Snapshot → History → Status → List ℕ → Type 0
+SuspendsAt b p Ok output = MaySuspend b p × (output ≡ encode_stream (snapshot_after b p))
+SuspendsAt b p NotYet output = (is_under_way b p ≡ true) × (output ≡ not_yet_text (number_of b p))
+SuspendsAt b p status output = ⊥
 
 -- as a script of `suspend`: its lines have no replies
-abbrev pub suspended : List ℕ → InputReading
-suspended script = record {
+abbrev pub suspended : Start → List ℕ → InputReading
+suspended start script = record {
   input = script;
   Gives = λ n output. (lines : List Line) × (in_order Some lines ≡ take (length lines) (meanings plain_event_of script)) × (length lines ≡ n) × (output ≡ []);
   IsBad = λ n. slice_get (meanings plain_event_of script) n ≡ Some None;
-  Ends = λ status output. (lines : List Line) × AreLines script lines × SuspendsAt (plain_history start lines) status output;
+  Ends = λ status output. (lines : List Line) × AreLines script lines × SuspendsAt (base_of start) (plain_history (base_of start) lines) status output;
 }
 
 -- ---- resume
@@ -97,16 +98,16 @@ pub record Resumption (input : List ℕ) : Type 0 where
 abbrev pub IsFrontRefused : Malformed → List ℕ → Type 0
 IsFrontRefused fault input = IsStreamRefused fault input × (fault.why ≢ Extra)
 
-abbrev pub ResumesTo : List ℕ → Status → List ℕ → Type 0
-ResumesTo input Refused output = (fault : Malformed) × IsFrontRefused fault input × (output ≡ refused_text fault)
-ResumesTo input status output = (from : Resumption input) × (followed from.base from.script).Ends status output
+abbrev pub ResumesTo : ℕ → List ℕ → Status → List ℕ → Type 0
+ResumesTo piece input Refused output = (fault : Malformed) × IsFrontRefused fault input × (output ≡ refused_text fault)
+ResumesTo piece input status output = (from : Resumption input) × (followed from.base piece from.script).Ends status output
 
-abbrev pub resumed : List ℕ → InputReading
-resumed input = record {
+abbrev pub resumed : ℕ → List ℕ → InputReading
+resumed piece input = record {
   input = input;
-  Gives = λ n output. (from : Resumption input) × (followed from.base from.script).Gives n output;
-  IsBad = λ n. (from : Resumption input) × (followed from.base from.script).IsBad n;
-  Ends = ResumesTo input;
+  Gives = λ n output. (from : Resumption input) × (followed from.base piece from.script).Gives n output;
+  IsBad = λ n. (from : Resumption input) × (followed from.base piece from.script).IsBad n;
+  Ends = ResumesTo piece input;
 }
 
 -- ---- check

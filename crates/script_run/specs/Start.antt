@@ -1,11 +1,12 @@
--- Where each run begins.
-use Rattle.std.specs.Prelude.{ℕ, replicate}
+-- Where a run begins.
+use Rattle.std.specs.Prelude.{replicate}
 use Rattle.crb_history.specs.Snapshot.{Snapshot, fresh}
+use Rattle.script_run.specs.declared.start.Start.{Start}
 
--- a reset device over a new TPM whose seed is zeros
-unfoldable pub start : Snapshot
-start = fresh (replicate 32 0)
+-- without options: a seed of zeros, and the longest pieces
+unfoldable pub default_start : Start
+default_start = record { seed = replicate 32 0; piece = 4096 }
 
--- a piece of a record or of a blob has at most so many bytes
-abbrev pub piece : ℕ
-piece = 4096
+-- a reset device over a new TPM that has the seed
+unfoldable pub base_of : Start → Snapshot
+base_of start = fresh start.seed

@@ -1,50 +1,112 @@
 -- The words of a run, and what is written for others. (Own definitions.)
-use Rattle.std.specs.Prelude.{◌≡◌, ◌≤◌, ◌-◌, ◌^◌, ◌==◌, ◌&&◌, not, ℕ, Bool, false, List, [], ◌∷◌, ◌++◌, map, String, Option, Some, None, if◌then◌else◌}
-use Rattle.std.specs.Str.{bytes_eq}
+use Rattle.std.specs.Prelude.{◌≡◌, ◌≤◌, ◌⊎◌, ◌-◌, ◌^◌, ◌==◌, ◌&&◌, not, ℕ, Bool, false, List, [], ◌∷◌, ◌++◌, length, map, String, Option, Some, None, Ok, unwrap_or}
 use Rattle.std.specs.String.{string_bytes}
 use Rattle.std.specs.declared.alloc.Global.{Global}
 use Rattle.std.specs.Fmt.{decimal}
 use lib.Chars.{codes}
+use Rattle.hex.specs.Hex.{decode_of}
+use Rattle.script_run.specs.Start.{default_start}
 use Rattle.script_run.specs.declared.action.Action.{Action}
+use Rattle.script_run.specs.declared.action.Action.TheVariants.{Replay, Drive, Suspend, Resume, Check}
 use Rattle.script_run.specs.declared.action.Task.{Task}
 use Rattle.script_run.specs.declared.action.Task.TheVariants.{Read, Bulk}
-use Rattle.script_run.specs.declared.action.Action.TheVariants.{Replay, Drive, Suspend, Resume, Check}
+use Rattle.script_run.specs.declared.options.Options.{Options}
+use Rattle.script_run.specs.declared.start.Start.{Start}
 
--- the action of a word that is alone
-abbrev pub action_alone : List ℕ → Option Action
-action_alone word =
-    if bytes_eq word (codes "replay") then Some Replay
-    else (if bytes_eq word (codes "drive") then Some Drive
-    else (if bytes_eq word (codes "suspend") then Some Suspend
-    else (if bytes_eq word (codes "resume") then Some Resume
-    else (if bytes_eq word (codes "check") then Some Check
-    else None))))
+-- ---- options
 
--- the action of some words; `None` where they are none of an action
-abbrev pub action_of : List (List ℕ) → Option Action
-action_of (word ∷ []) = action_alone word
-action_of _ = None
+-- an option is two words, its name and its value, or one word with `=` between the two
+abbrev pub IsOption : List ℕ → List ℕ → List (List ℕ) → Type 0
+IsOption name value words = (words ≡ name ∷ value ∷ []) ⊎ (words ≡ (name ++ 61 ∷ value) ∷ [])
 
--- these words are those of the action
-abbrev pub IsAction : Action → List (String Global) → Type 0
-IsAction action words = action_of (map string_bytes words) ≡ Some action
+-- a piece has 1 to 4096 bytes
+pub record IsPiece (piece : ℕ) : Type 0 where
+  pub least : 1 ≤ piece
+  pub most : piece ≤ 4096
 
--- a word has a first character, no plus sign there, and no zero there before others
-abbrev pub begins_well : List ℕ → Bool
-begins_well [] = false
-begins_well (only ∷ []) = not (only == 43)
-begins_well (first ∷ next ∷ rest) = not (first == 43) && not (first == 48)
+-- the words of `--piece`, or none; the number is in decimal without a sign or a leading zero
+abbrev pub PieceWords : Option ℕ → List (List ℕ) → Type 0
+PieceWords None words = words ≡ []
+PieceWords (Some piece) words = IsPiece piece × IsOption (codes "--piece") (decimal piece) words
 
--- these words are `bulk`, a number of 64 bits and a count of at most 100000, both in decimal without a sign or a leading zero
-pub record IsBulk (seed count : ℕ) (words : List (String Global)) : Type 0 where
-  pub spelled : map string_bytes words ≡ codes "bulk" ∷ decimal seed ∷ decimal count ∷ []
+-- 64 hexadecimal digits of either case are a seed, two for each byte, in the order of the bytes
+pub record IsSeed (digits seed : List ℕ) : Type 0 where
+  pub count : length digits ≡ 64
+  pub bytes : decode_of digits ≡ Ok seed
+
+-- the words of `--seed`, or none
+abbrev pub SeedWords : Option (List ℕ) → List (List ℕ) → Type 0
+SeedWords None words = words ≡ []
+SeedWords (Some seed) words = (digits : List ℕ) × IsSeed digits seed × IsOption (codes "--seed") digits words
+
+-- the words of options, each at most once, in any order
+pub record AreOptions (given : Options) (words : List (List ℕ)) : Type 0 where
+  pub piece_words : List (List ℕ)
+  pub seed_words : List (List ℕ)
+  pub piece : PieceWords given.piece piece_words
+  pub seed : SeedWords given.seed seed_words
+  pub order : (words ≡ piece_words ++ seed_words) ⊎ (words ≡ seed_words ++ piece_words)
+
+-- how a run begins; what isn't given is as without options
+abbrev pub start_by : Options → Start
+start_by given = record { seed = unwrap_or given.seed default_start.seed; piece = unwrap_or given.piece default_start.piece }
+
+-- the options of a run that begins so
+pub record StartWords (start : Start) (words : List (List ℕ)) : Type 0 where
+  pub given : Options
+  pub options : AreOptions given words
+  pub same : start ≡ start_by given
+
+-- the options of a run that goes on from a saved stream; that has its seed
+pub record ResumeWords (piece : ℕ) (words : List (List ℕ)) : Type 0 where
+  pub given : Options
+  pub options : AreOptions given words
+  pub no_seed : given.seed ≡ None
+  pub same : piece ≡ (start_by given).piece
+
+-- ---- numbers of bulk
+
+-- a number of 64 bits and a count of at most 100000, both in decimal without a sign or a leading zero
+pub record BulkWords (seed count : ℕ) (words : List (List ℕ)) : Type 0 where
+  pub spelled : words ≡ decimal seed ∷ decimal count ∷ []
   pub seed_is_valid : seed ≤ 2 ^ 64 - 1
   pub count_fits : count ≤ 100000
 
--- these words are those of the task
+-- ---- all words
+
+-- the first word is the command's name, and this holds of those behind it
+pub record Begins (name : List ℕ) (Holds : List (List ℕ) → Type 0) (words : List (List ℕ)) : Type 0 where
+  pub rest : List (List ℕ)
+  pub spelled : words ≡ name ∷ rest
+  pub holds : Holds rest
+
+-- a piece of an action has 1 to 4096 bytes
+abbrev pub HasPiece : Action → Type 0
+HasPiece (Replay start) = IsPiece start.piece
+HasPiece (Drive start) = IsPiece start.piece
+HasPiece (Suspend start) = IsPiece start.piece
+HasPiece (Resume piece) = IsPiece piece
+HasPiece Check = Unit {0}
+
+-- the words of each task
+abbrev pub TaskWords : Task → List (List ℕ) → Type 0
+TaskWords (Read (Replay start)) = Begins (codes "replay") (StartWords start)
+TaskWords (Read (Drive start)) = Begins (codes "drive") (StartWords start)
+TaskWords (Read (Suspend start)) = Begins (codes "suspend") (StartWords start)
+TaskWords (Read (Resume piece)) = Begins (codes "resume") (ResumeWords piece)
+TaskWords (Read Check) = Begins (codes "check") (λ rest. rest ≡ [])
+TaskWords (Bulk seed count) = Begins (codes "bulk") (BulkWords seed count)
+
 abbrev pub IsTask : Task → List (String Global) → Type 0
-IsTask (Read action) words = IsAction action words
-IsTask (Bulk seed count) words = IsBulk seed count words
+IsTask task words = TaskWords task (map string_bytes words)
+
+-- these words are those of the action
+abbrev pub IsAction : Action → List (String Global) → Type 0
+IsAction action words = IsTask (Read action) words
+
+-- these words are those of `bulk` with these numbers
+abbrev pub IsBulk : ℕ → ℕ → List (String Global) → Type 0
+IsBulk seed count words = IsTask (Bulk seed count) words
 
 -- these words are in no grammar
 abbrev pub IsUnknown : List (String Global) → Type 0

@@ -1,19 +1,38 @@
 //! The words of a run.
-ghost use Rattle.std.specs.Prelude.{◌≡◌, ◌≤◌, ◌-◌, ◌^◌, ℕ, IfSome, IfNone};
-ghost use Rattle.std.specs.Fmt.{decimal};
-ghost use Rattle.script_run.specs.Words.{action_alone, begins_well, IsTask, IsUnknown};
+ghost use Rattle.std.specs.Prelude.{◌≡◌, ℕ, map, Some, IfSome};
+ghost use Rattle.std.specs.String.{string_bytes};
+ghost use Rattle.script_run.specs.Words.{BulkWords, IsTask, ResumeWords, StartWords};
+ghost use Rattle.script_run.specs.declared.action.Task.{Task};
+ghost use Rattle.script_run.specs.declared.action.Task.TheVariants.{Bulk};
+ghost use Rattle.script_run.specs.declared.start.Start.{Start};
+
+use crate::decimal::number;
+use crate::options::Options;
+use crate::start::Start;
 
 /// What is done with an input.
 #[derive(Clone, Copy, Debug, PartialEq, Eq)]
 pub enum Action {
     /// Its lines are done one by one, and each has a reply.
-    Replay,
+    Replay {
+        /// How the run begins.
+        start: Start,
+    },
     /// Its lines are commands for the TPM, and each has a response.
-    Drive,
+    Drive {
+        /// How the run begins.
+        start: Start,
+    },
     /// Its lines are done one by one, and then the host is saved.
-    Suspend,
+    Suspend {
+        /// How the run begins.
+        start: Start,
+    },
     /// A saved stream is loaded, and the lines behind it are done one by one, each with a reply.
-    Resume,
+    Resume {
+        /// The most bytes of a piece, from 1 to 4096.
+        piece: u32,
+    },
     /// A saved stream is looked at.
     Check,
 }
@@ -38,63 +57,64 @@ const LARGEST_COUNT: u64 = 100_000;
 /// The task that the words name; `None` comes where they aren't in the grammar.
 pub fn task_of(words: &[String]) -> Option<Task>
     ensures named { IfSome result (λ task. IsTask task words.now) }
-    ensures other { IfNone result (IsUnknown words.now) }
+    ensures only { (task : Task) → IsTask task words.now → result ≡ Some task }
 {
-    match words {
-        [word] => Some(Task::Read(action_alone(word.as_str())?)),
-        [name, seed, count] if name.as_str() == "bulk" => bulk_of(seed.as_str(), count.as_str()),
+    let (command, rest) = words.split_first()?;
+    match command.as_str() {
+        "replay" => Some(Task::Read(Action::Replay {
+            start: start_of(rest)?,
+        })),
+        "drive" => Some(Task::Read(Action::Drive {
+            start: start_of(rest)?,
+        })),
+        "suspend" => Some(Task::Read(Action::Suspend {
+            start: start_of(rest)?,
+        })),
+        "resume" => Some(Task::Read(Action::Resume {
+            piece: piece_alone(rest)?,
+        })),
+        "check" => match rest {
+            [] => Some(Task::Read(Action::Check)),
+            _ => None,
+        },
+        "bulk" => bulk_of(rest),
         _ => None,
     }
 }
 
-// The action of a word that is alone.
-fn action_alone(word: &str) -> Option<Action>
-    ensures { result ≡ action_alone word.now }
+// How a run begins by the options behind its command.
+fn start_of(words: &[String]) -> Option<Start>
+    ensures named { IfSome result (λ start. StartWords start (map string_bytes words.now)) }
+    ensures only { (start : Start) → StartWords start (map string_bytes words.now) → result ≡ Some start }
 {
-    match word {
-        "replay" => Some(Action::Replay),
-        "drive" => Some(Action::Drive),
-        "suspend" => Some(Action::Suspend),
-        "resume" => Some(Action::Resume),
-        "check" => Some(Action::Check),
-        _ => None,
+    let given = Options::parse(words)?;
+    Some(given.start())
+}
+
+// The size of a piece by the options behind a command that takes no seed.
+fn piece_alone(words: &[String]) -> Option<u32>
+    ensures named { IfSome result (λ piece. ResumeWords piece (map string_bytes words.now)) }
+    ensures only { (piece : ℕ) → ResumeWords piece (map string_bytes words.now) → result ≡ Some piece }
+{
+    let given = Options::parse(words)?;
+    match given.seed {
+        None => Some(given.start().piece),
+        Some(_) => None,
     }
 }
 
 // The task of the two numbers behind `bulk`.
-fn bulk_of(seed: &str, count: &str) -> Option<Task>
-    ensures named { IfSome result (λ task. (n : ℕ) × (m : ℕ) × (task ≡ Task.Bulk n m) × (seed.now ≡ decimal n) × (count.now ≡ decimal m) × (n ≤ 2 ^ 64 - 1) × (m ≤ 100000)) }
-    ensures other { IfNone result ((n m : ℕ) → seed.now ≡ decimal n → count.now ≡ decimal m → n ≤ 2 ^ 64 - 1 → m ≤ 100000 → ⊥) }
+fn bulk_of(words: &[String]) -> Option<Task>
+    ensures named { IfSome result (λ task. (seed : ℕ) × (count : ℕ) × (task ≡ Bulk seed count) × BulkWords seed count (map string_bytes words.now)) }
+    ensures only { (seed count : ℕ) → BulkWords seed count (map string_bytes words.now) → result ≡ Some (Bulk seed count) }
 {
-    let seed = number(seed, u64::MAX)?;
-    let count = number(count, LARGEST_COUNT)?;
+    let [seed, count] = words else {
+        return None;
+    };
+    let seed = number(seed.as_str(), u64::MAX)?;
+    let count = number(count.as_str(), LARGEST_COUNT)?;
     Some(Task::Bulk {
         seed,
         count: count as u32,
     })
-}
-
-// Whether a word has a first character, no plus sign there, and no zero there before others.
-fn begins_well(digits: &[u8]) -> bool
-    ensures { result ≡ begins_well digits.now }
-{
-    match digits {
-        [] => false,
-        [only] => *only != b'+',
-        [first, ..] => *first != b'+' && *first != b'0',
-    }
-}
-
-// The number that a word is in decimal, without a sign or a leading zero, if it is at most so large.
-fn number(word: &str, most: u64) -> Option<u64>
-    ensures named { IfSome result (λ n. (word.now ≡ decimal n) × (n ≤ most)) }
-    ensures other { IfNone result ((n : ℕ) → word.now ≡ decimal n → n ≤ most → ⊥) }
-{
-    if !begins_well(word.as_bytes()) {
-        return None;
-    }
-    match word.parse::<u64>() {
-        Ok(number) if number <= most => Some(number),
-        _ => None,
-    }
 }

@@ -7,12 +7,12 @@ ghost use Rattle.script_run.specs.Ends.{BulkEnd};
 ghost use Rattle.script_run.specs.Loop.{HasDriven};
 ghost use Rattle.script_run.specs.Output.{seen, Tells};
 ghost use Rattle.script_run.specs.Run.{latest_first};
-ghost use Rattle.script_run.specs.Start.{start};
+ghost use Rattle.script_run.specs.Start.{base_of, default_start};
 
 use crate::drive::respond;
 use crate::output::write_and_end;
 use crate::ran::{End, Ran};
-use crate::start::start_pair;
+use crate::start::Start;
 use bulk_lines::{BulkLines, Summary};
 use crb_port::PlainPort;
 use std::alloc::{AllocError, Global};
@@ -26,7 +26,7 @@ pub fn bulk<K: Sink>(alloc: Global, seed: u64, count: u32, sink: &mut K) -> Ran
         (seen (K.written sink.new) (K.room sink.new) (K.faults sink.new)) }
     ensures hands_out { BulkEnd seed count result.status result.end }
 {
-    let Ok(mut pair) = start_pair(alloc) else {
+    let Ok(mut pair) = Start::without_options().pair(alloc) else {
         return Ran {
             status: Status::Memory,
             end: End::Nothing,
@@ -49,9 +49,9 @@ fn sum_up(
     into: &mut Vec<u8>,
 ) -> Result<(), AllocError>
     requires within_limit { length lines ≤ 100001 }
-    requires first { HasDriven [] pair.old }
+    requires first { HasDriven default_start [] pair.old }
     ensures text { OnOk result (into.new.items ≡ into.old.items ++ summary_of (latest_first lines)) }
-    ensures driven { OnOk result (HasDriven (latest_first lines) pair.new) }
+    ensures driven { OnOk result (HasDriven default_start (latest_first lines) pair.new) }
 {
     let mut summary = Summary::new();
     do_lines(alloc, lines, pair, &mut summary)?;
@@ -66,10 +66,10 @@ fn do_lines(
     summary: &mut Summary,
 ) -> Result<(), AllocError>
     requires within_limit { length lines ≤ 100001 }
-    requires first { HasDriven [] pair.old }
+    requires first { HasDriven default_start [] pair.old }
     requires empty { IsSummaryOf summary.old 0 0 [] }
-    ensures summed { OnOk result (IsSummaryOf summary.new (command_count (latest_first lines)) (move_count (latest_first lines)) (driven start.tpm (latest_first lines))) }
-    ensures driven { OnOk result (HasDriven (latest_first lines) pair.new) }
+    ensures summed { OnOk result (IsSummaryOf summary.new (command_count (latest_first lines)) (move_count (latest_first lines)) (driven (base_of default_start).tpm (latest_first lines))) }
+    ensures driven { OnOk result (HasDriven default_start (latest_first lines) pair.new) }
 {
     while let Some(line) = lines.next(alloc)? {
         let mut output = Vec::new(alloc);

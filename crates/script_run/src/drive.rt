@@ -1,6 +1,6 @@
 //! The command `drive`: a driver does the command of each line, the guest is moved between them, and the responses are
 //! written.
-ghost use Rattle.std.specs.Prelude.{◌≡◌, ◌≤◌, None, IfNone, IfSome, OnOk, OnErr, length, take};
+ghost use Rattle.std.specs.Prelude.{◌≡◌, ◌≤◌, ℕ, None, IfNone, IfSome, OnOk, OnErr, length, take};
 ghost use Rattle.tpm_frame.specs.Sizes.{IsWellSized};
 ghost use Rattle.vt_script.specs.Drive.{IsDriveLine, drive_of};
 ghost use Rattle.crb_history.specs.Snapshot.{Snapshot};
@@ -15,12 +15,14 @@ ghost use Rattle.script_run.specs.Loop.{Responded, GoesOn, EndsHere};
 ghost use Rattle.script_run.specs.Output.{seen};
 ghost use Rattle.script_run.specs.Placed.{pieces_of_move};
 ghost use Rattle.script_run.specs.Run.{IsShort, Leaves, driven_by};
-ghost use Rattle.script_run.specs.Start.{start};
+ghost use Rattle.script_run.specs.Start.{base_of};
+ghost use Rattle.script_run.specs.Words.{IsPiece};
+ghost use Rattle.script_run.specs.declared.start.Start.{Start};
 
 use crate::cursor::ScriptLines;
 use crate::output::{bad_line, flush_if_full, write_and_end};
 use crate::ran::{End, Ran};
-use crate::start::start_pair;
+use crate::start::Start;
 use crb_driver::Driver;
 use crb_port::PlainPort;
 use std::alloc::{AllocError, Global};
@@ -33,13 +35,14 @@ const POLLS: u32 = 8;
 
 /// Does a script's drive lines on two new hosts: writes the response to each command in hexadecimal, and moves the
 /// guest to the other host where a line asks for it.
-pub fn drive<K: Sink>(alloc: Global, script: &[u8], sink: &mut K) -> Ran
-    requires { IsShort script.now }
-    ensures writes { Leaves result.status (driven_by script.now) (seen (K.written sink.old) (K.room sink.old) (K.faults sink.old))
+pub fn drive<K: Sink>(alloc: Global, start: Start, script: &[u8], sink: &mut K) -> Ran
+    requires piece { IsPiece start.piece }
+    requires short { IsShort script.now }
+    ensures writes { Leaves result.status (driven_by start script.now) (seen (K.written sink.old) (K.room sink.old) (K.faults sink.old))
         (seen (K.written sink.new) (K.room sink.new) (K.faults sink.new)) }
-    ensures hands_out { HandsOut (HandsPair (AreDriveLines script.now)) result.status result.end }
+    ensures hands_out { HandsOut (HandsPair start (AreDriveLines script.now)) result.status result.end }
 {
-    let Ok(mut pair) = start_pair(alloc) else {
+    let Ok(mut pair) = start.pair(alloc) else {
         return Ran {
             status: Status::Memory,
             end: End::Nothing,
@@ -67,11 +70,11 @@ fn drive_line<K: Sink>(
     sink: &mut K,
 ) -> Option<Status>
     requires { CanRespond pair.old }
-    ensures goes_on { IfNone result ((p : History) (s : Placement) → IsWaiting p s pair.old
-        → GoesOn (λ now. Responded p s text.now pending.old.items now pair.new) pending.new.items (seen (K.written sink.old) (K.room sink.old) (K.faults sink.old))
+    ensures goes_on { IfNone result ((start : Start) (p : History) (s : Placement) → IsWaiting start p s pair.old
+        → GoesOn (λ now. Responded start p s text.now pending.old.items now pair.new) pending.new.items (seen (K.written sink.old) (K.room sink.old) (K.faults sink.old))
         (seen (K.written sink.new) (K.room sink.new) (K.faults sink.new))) }
-    ensures ends { IfSome result (λ status. (p : History) (s : Placement) → IsWaiting p s pair.old
-        → EndsHere (drive_of text.now ≡ None) (λ now. Responded p s text.now pending.old.items now pair.new) number pending.old.items status (seen (K.written sink.old) (K.room sink.old) (K.faults sink.old))
+    ensures ends { IfSome result (λ status. (start : Start) (p : History) (s : Placement) → IsWaiting start p s pair.old
+        → EndsHere (drive_of text.now ≡ None) (λ now. Responded start p s text.now pending.old.items now pair.new) number pending.old.items status (seen (K.written sink.old) (K.room sink.old) (K.faults sink.old))
         (seen (K.written sink.new) (K.room sink.new) (K.faults sink.new))) }
 {
     let Ok(found) = parse_drive(alloc, text) else {
@@ -100,8 +103,8 @@ pub fn respond(
 ) -> Result<(), AllocError>
     requires valid { IsDriveLine line.now }
     requires waits { CanRespond pair.old }
-    ensures ok { OnOk result ((p : History) (s : Placement) → IsWaiting p s pair.old
-        → Responds p s line.now into.old.items into.new.items pair.new) }
+    ensures ok { OnOk result ((start : Start) (p : History) (s : Placement) → IsWaiting start p s pair.old
+        → Responds start p s line.now into.old.items into.new.items pair.new) }
     ensures err { OnErr result (into.new.items ≡ into.old.items) }
 {
     match line {
@@ -124,7 +127,7 @@ fn call(pair: &mut Pair<PlainPort>, command: &[u8], into: &mut [u8]) -> usize
     ensures calls { (b : Snapshot) (p : History) → IsAtRest b p (running_world pair.old)
         → Calls b p command.now (take result into.new) (running_world pair.new) }
     ensures within { result ≤ length into.new }
-    ensures place { (s : Placement) → IsMovable 4096 s pair.old → IsMovable 4096 s pair.new }
+    ensures place { (piece : ℕ) (s : Placement) → IsMovable piece s pair.old → IsMovable piece s pair.new }
 {
     tpm_core::laws::answers_are_responses();
     laws::accesses_keep_the_placement();
@@ -142,8 +145,8 @@ fn move_guest(
 ) -> Result<(), AllocError>
     requires waits { CanRespond pair.old }
     requires counted { IfSome lost (λ k. 1 ≤ k) }
-    ensures moved { OnOk result ((p : History) (s : Placement) → IsWaiting p s pair.old
-        → IsWaiting p (moved (pieces_of_move (tpm_at start p)) lost s) pair.new) }
+    ensures moved { OnOk result ((start : Start) (p : History) (s : Placement) → IsWaiting start p s pair.old
+        → IsWaiting start p (moved (pieces_of_move start.piece (tpm_at (base_of start) p)) lost s) pair.new) }
 {
     laws::guests_can_move();
     laws::idle_guests_have_short_records();

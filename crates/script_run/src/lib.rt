@@ -19,7 +19,9 @@
 mod action;
 mod bulk;
 mod cursor;
+mod decimal;
 mod drive;
+mod options;
 mod output;
 mod ran;
 mod replay;
@@ -30,4 +32,5 @@ mod top;
 
 pub use action::{Action, Task};
 pub use ran::{End, Ran};
+pub use start::Start;
 pub use top::run;

@@ -4,6 +4,7 @@ ghost use Rattle.script_run.specs.Ends.{HandsOut, HandsResumed};
 ghost use Rattle.script_run.specs.Output.{seen};
 ghost use Rattle.script_run.specs.Run.{IsShort, Leaves};
 ghost use Rattle.script_run.specs.Saved.{resumed, checked};
+ghost use Rattle.script_run.specs.Words.{IsPiece};
 ghost use Rattle.saved_stream.specs.Refusals.{IsStreamRefused};
 
 use crate::output::{refused, whole};
@@ -16,15 +17,16 @@ use vt_world::{Loaded, World};
 
 /// Goes on from the saved stream at the start of the input: does the lines of the script behind it, and writes a reply
 /// to each.
-pub fn resume<K: Sink>(alloc: Global, input: &[u8], sink: &mut K) -> Ran
-    requires { IsShort input.now }
-    ensures writes { Leaves result.status (resumed input.now) (seen (K.written sink.old) (K.room sink.old) (K.faults sink.old))
+pub fn resume<K: Sink>(alloc: Global, piece: u32, input: &[u8], sink: &mut K) -> Ran
+    requires piece { IsPiece piece }
+    requires short { IsShort input.now }
+    ensures writes { Leaves result.status (resumed piece input.now) (seen (K.written sink.old) (K.room sink.old) (K.faults sink.old))
         (seen (K.written sink.new) (K.room sink.new) (K.faults sink.new)) }
-    ensures hands_out { HandsOut (HandsResumed input.now) result.status result.end }
+    ensures hands_out { HandsOut (HandsResumed piece input.now) result.status result.end }
 {
-    match World::load(alloc, input, LARGEST_PIECE as u32) {
+    match World::load(alloc, input, piece) {
         Ok(Loaded::World(world)) => follow(alloc, world, &[], sink),
-        Ok(Loaded::Bad(fault)) => resume_in_front(alloc, fault, input, sink),
+        Ok(Loaded::Bad(fault)) => resume_in_front(alloc, piece, fault, input, sink),
         Err(_) => Ran {
             status: Status::Memory,
             end: End::Nothing,
@@ -33,12 +35,19 @@ pub fn resume<K: Sink>(alloc: Global, input: &[u8], sink: &mut K) -> Ran
 }
 
 // Goes on from a stream that has bytes behind it, which are the script. Any other refusal is written.
-fn resume_in_front<K: Sink>(alloc: Global, fault: Malformed, input: &[u8], sink: &mut K) -> Ran
+fn resume_in_front<K: Sink>(
+    alloc: Global,
+    piece: u32,
+    fault: Malformed,
+    input: &[u8],
+    sink: &mut K,
+) -> Ran
+    requires piece { IsPiece piece }
     requires short { IsShort input.now }
     requires refused { IsStreamRefused fault input.now }
-    ensures writes { Leaves result.status (resumed input.now) (seen (K.written sink.old) (K.room sink.old) (K.faults sink.old))
+    ensures writes { Leaves result.status (resumed piece input.now) (seen (K.written sink.old) (K.room sink.old) (K.faults sink.old))
         (seen (K.written sink.new) (K.room sink.new) (K.faults sink.new)) }
-    ensures hands_out { HandsOut (HandsResumed input.now) result.status result.end }
+    ensures hands_out { HandsOut (HandsResumed piece input.now) result.status result.end }
 {
     saved_stream::laws::decoding_is_unique();
     let Why::Extra = fault.why else {
@@ -48,7 +57,7 @@ fn resume_in_front<K: Sink>(alloc: Global, fault: Malformed, input: &[u8], sink:
         };
     };
     let (stream, script) = input.split_at(fault.place as usize);
-    match World::load(alloc, stream, LARGEST_PIECE as u32) {
+    match World::load(alloc, stream, piece) {
         Ok(Loaded::World(world)) => follow(alloc, world, script, sink),
         Ok(Loaded::Bad(_)) => unreachable!(),
         Err(_) => Ran {

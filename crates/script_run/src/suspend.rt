@@ -10,22 +10,24 @@ ghost use Rattle.script_run.specs.Loop.{WritesSaved};
 ghost use Rattle.script_run.specs.Output.{seen};
 ghost use Rattle.script_run.specs.Run.{IsShort, Leaves};
 ghost use Rattle.script_run.specs.Saved.{suspended, plain_event_of};
+ghost use Rattle.script_run.specs.Words.{IsPiece};
 
 use crate::cursor::ScriptLines;
 use crate::output::{bad_line, not_yet, write_and_end};
-use crate::start::start;
+use crate::start::Start;
 use std::alloc::Global;
 use vt_base::{Sink, Status};
 use vt_script::{Event, parse_line};
 use vt_world::{Saved, World};
 
 /// Does the lines of a script on a new device, and writes the saved stream of the host at their end.
-pub fn suspend<K: Sink>(alloc: Global, script: &[u8], sink: &mut K) -> Status
-    requires { IsShort script.now }
-    ensures writes { Leaves result (suspended script.now) (seen (K.written sink.old) (K.room sink.old) (K.faults sink.old))
+pub fn suspend<K: Sink>(alloc: Global, start: Start, script: &[u8], sink: &mut K) -> Status
+    requires piece { IsPiece start.piece }
+    requires short { IsShort script.now }
+    ensures writes { Leaves result (suspended start script.now) (seen (K.written sink.old) (K.room sink.old) (K.faults sink.old))
         (seen (K.written sink.new) (K.room sink.new) (K.faults sink.new)) }
 {
-    let Ok(mut world) = start(alloc) else {
+    let Ok(mut world) = start.world(alloc) else {
         return Status::Memory;
     };
     let mut lines = ScriptLines::new(script);

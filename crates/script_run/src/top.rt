@@ -8,7 +8,7 @@ ghost use Rattle.script_run.specs.Bulk.{bulk_summary};
 ghost use Rattle.script_run.specs.Ends.{EndOf, BulkEnd, HasEnd};
 ghost use Rattle.script_run.specs.Output.{seen, Finishes, Tells};
 ghost use Rattle.script_run.specs.Run.{IsShort, Leaves, Writes, IsCramped, IsGood};
-ghost use Rattle.script_run.specs.Words.{IsAction, IsBulk, IsUnknown, usage_text};
+ghost use Rattle.script_run.specs.Words.{IsAction, IsBulk, IsUnknown, HasPiece, usage_text};
 
 use crate::action::{Action, Task, task_of};
 use crate::bulk::bulk;
@@ -35,13 +35,17 @@ const LONG_INPUT: &[u8] = b"long input\n";
 /// nothing: it does the drive lines that are drawn from the seed N, and writes how many of each kind there were and the
 /// SHA-256 of what `drive` writes for them.
 ///
+/// Options follow the command: of `replay`, `drive` and `suspend` `--piece P`, the most bytes of a piece, and
+/// `--seed HEX`, the seed of the TPM; of `resume` `--piece P`. Each is given at most once, as two words or as one with
+/// `=`, in any order. Without them a piece has at most 4096 bytes, and the seed is zeros.
+///
 /// What `replay` and `resume` print is a run of one CRB device over one TPM that never moved, whatever messages between
 /// the two hosts are lost, repeated or reordered. Lines have one run (`two_hosts::laws::runs_are_one`), so the replies
 /// that are written and the world that is handed out are of the same one.
 ///
 /// Where `replay` or `resume` is `Ok`, the world that did the lines is handed out, and where `drive` or `bulk` is, the
-/// two hosts that did them. The status is `Ok` where the whole input was read and done; `Usage` where the words are
-/// none that are known, and then nothing is read; `Script` at the first line that isn't in the grammar; `Limit` for an
+/// two hosts that did them. The status is `Ok` where the whole input was read and done; `Usage` where the words
+/// aren't in their grammar, and then nothing is read; `Script` at the first line that isn't in the grammar; `Limit` for an
 /// input of more than 1,048,576 bytes; `Refused` where the input isn't, or doesn't begin with, a saved stream; `NotYet`
 /// where a host can't be saved since a command of it is claimed and unfinished; `ReadFault` and `WriteFault` where the
 /// source or the sink failed; `Memory` where memory was lacking.
@@ -104,6 +108,7 @@ fn run_action<S: Source, K: Sink>(
     source: &mut S,
     sink: &mut K,
 ) -> Ran
+    requires { HasPiece action }
     ensures writes { IfSome (S.left source.old) (λ input. Writes result.status (reading_of action input) (K.written sink.old) (K.written sink.new)) }
     ensures not_usage { result.status ≢ Status.Usage }
     ensures read_fault { result.status ≡ Status.ReadFault → Rose (S.faults source.old) (S.faults source.new) }
@@ -134,19 +139,20 @@ fn run_action<S: Source, K: Sink>(
 
 // Does what the action makes of an input that isn't too long.
 fn act_on<K: Sink>(alloc: Global, action: Action, input: &[u8], sink: &mut K) -> Ran
-    requires { IsShort input.now }
+    requires piece { HasPiece action }
+    requires short { IsShort input.now }
     ensures writes { Leaves result.status (reading_of action input.now) (seen (K.written sink.old) (K.room sink.old) (K.faults sink.old))
         (seen (K.written sink.new) (K.room sink.new) (K.faults sink.new)) }
     ensures hands_out { EndOf action input.now result.status result.end }
 {
     match action {
-        Action::Replay => replay(alloc, input, sink),
-        Action::Drive => drive(alloc, input, sink),
-        Action::Suspend => Ran {
-            status: suspend(alloc, input, sink),
+        Action::Replay { start } => replay(alloc, start, input, sink),
+        Action::Drive { start } => drive(alloc, start, input, sink),
+        Action::Suspend { start } => Ran {
+            status: suspend(alloc, start, input, sink),
             end: End::Nothing,
         },
-        Action::Resume => resume(alloc, input, sink),
+        Action::Resume { piece } => resume(alloc, piece, input, sink),
         Action::Check => Ran {
             status: check(alloc, input, sink),
             end: End::Nothing,

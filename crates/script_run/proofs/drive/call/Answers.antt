@@ -25,5 +25,5 @@ returns-clause-calls c = λ b p rest.
     (guest-answers c.args.pair.now c.call.new.bus c.args.command.now 8 (take c.in-Ok.count c.call.new.into) c.in-Ok.ensures.ok)
 
 pub returns-clause-place : goal.returns-clause-place
-returns-clause-place c = λ s movable.
-    place-answers c.accesses_keep_the_placement.ensures.kept s c.args.command.now 8 (take c.in-Ok.count c.call.new.into) c.args.pair.now c.call.new.bus movable c.in-Ok.ensures.ok
+returns-clause-place c = λ piece s movable.
+    place-answers c.accesses_keep_the_placement.ensures.kept piece s c.args.command.now 8 (take c.in-Ok.count c.call.new.into) c.args.pair.now c.call.new.bus movable c.in-Ok.ensures.ok

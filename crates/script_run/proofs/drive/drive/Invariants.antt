@@ -3,14 +3,14 @@ use Rattle.vt_script.specs.declared.drive.DriveLine.{DriveLine}
 use Rattle.script_run.specs.Driven.{driven}
 use Rattle.script_run.specs.Loop.{DrivesAt, HasWritten}
 use Rattle.script_run.specs.Output.{seen}
-use Rattle.script_run.specs.Start.{start}
+use Rattle.script_run.specs.Start.{base_of}
 use Rattle.script_run.proofs.drive.drive.Given as goal
 
 -- the lines that are done have their responses written, or pending
 abbrev pub invariant-loop-text : goal.invariant-loop-text
 invariant-loop-text g l = record {
-  done : (lines : List DriveLine) × DrivesAt l.script l.lines.rest lines l.pair
-      × HasWritten (seen (g.K.Sink.written l.fn.sink) (g.K.Sink.room l.fn.sink) (g.K.Sink.faults l.fn.sink)) (seen (g.K.Sink.written l.sink) (g.K.Sink.room l.sink) (g.K.Sink.faults l.sink)) l.pending.items (driven start.tpm lines) × (l.lines.number ≡ length lines);
+  done : (lines : List DriveLine) × DrivesAt l.fn.start l.script l.lines.rest lines l.pair
+      × HasWritten (seen (g.K.Sink.written l.fn.sink) (g.K.Sink.room l.fn.sink) (g.K.Sink.faults l.fn.sink)) (seen (g.K.Sink.written l.sink) (g.K.Sink.room l.sink) (g.K.Sink.faults l.sink)) l.pending.items (driven (base_of l.fn.start).tpm lines) × (l.lines.number ≡ length lines);
 }
 
 abbrev pub decreases-loop-text : goal.decreases-loop-text

@@ -7,7 +7,7 @@ use Rattle.script_run.proofs.suspend.suspend.Given as goal
 -- nothing is written while the lines are done
 abbrev pub invariant-loop-text : goal.invariant-loop-text
 invariant-loop-text g l = record {
-  done : (lines : List Line) × (t : Transcript) × SuspendsOn l.script l.lines.rest lines t l.world × (l.lines.number ≡ length lines);
+  done : (lines : List Line) × (t : Transcript) × SuspendsOn l.fn.start l.script l.lines.rest lines t l.world × (l.lines.number ≡ length lines);
   untouched : l.sink ≡ l.fn.sink;
 }
 

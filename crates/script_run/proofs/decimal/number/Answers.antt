@@ -1,7 +1,7 @@
 use Rattle.std.proofs.Common.{◌∙◌, ap, sym, arith}
-use Rattle.script_run.specs.Words.{begins_well}
-use Rattle.script_run.proofs.Words.{decimal-begins, decimal-of, parsed-is, not-parsed, false-true}
-use Rattle.script_run.proofs.action.number.Goals as goal
+use Rattle.script_run.specs.Reading.{begins_well}
+use Rattle.script_run.proofs.Numerals.{decimal-begins, decimal-of, parsed-is, not-parsed, false-true}
+use Rattle.script_run.proofs.decimal.number.Goals as goal
 
 pub returns-then-not-begins_well-clause-other : goal.returns-then-not-begins_well-clause-other
 returns-then-not-begins_well-clause-other c = λ n is within_limit.
