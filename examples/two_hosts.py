@@ -1,20 +1,26 @@
-"""A plain model of two hosts whose guest sends no command, and random scripts for it.
+"""A plain model of two hosts and the messages between them, by lines and replies.
 
-It follows the tables of docs/MIGRATION.md and docs/PROGRAMS.md, and shares nothing with the program.
+It follows the tables of docs/MIGRATION.md and docs/PROGRAMS.md, and shares nothing with the program. There is one device
+and one TPM: what a host sends is made of them, and they never move.
 """
-import random
 from struct import pack
+
+from plain_device import CLAIMED, EXECUTION, HEADER, LOST, SENT, WAITING, Device
+from plain_tpm import CANCELED, Tpm, short
 
 OFFER, NEED, PIECE, PREPARED, COMMIT, ABORT, REFUSE = range(1, 8)
 LINK = 5
 BAG = 16384
+# The calls on the wires for a piece of each part.
+CALLS = (0, 3, 3, 3)
 
 
 class Host:
     def __init__(self, stage):
         self.stage = stage
-        self.epoch = self.part = 0
-        self.top = 0
+        self.epoch = self.top = 0
+        # The part and the place that it asks for next.
+        self.part = self.place = 0
         # How many calls are left up to the one that is to fail; None: none is to fail.
         self.left = None
 
@@ -30,78 +36,121 @@ class Host:
 
 
 class TwoHosts:
-    def __init__(self):
+    def __init__(self, piece=4096):
         self.hosts = {"a": Host("running"), "b": Host("empty")}
+        self.device, self.tpm = Device(), Tpm()
+        self.piece = piece
         self.bag = []
-        self.boots = 1
-        self.lost = False
+        # The four parts of each offer.
         self.offered = {}
-
-    def parts(self):
-        """The record of an idle device, and the blobs of a TPM that isn't started: its seed is zeros."""
-        return [
-            b"CRBD\x01" + pack(">I", 14) + bytes(14),
-            b"CRBP\x01" + pack(">I", 40) + bytes(32) + pack(">Q", self.boots),
-            b"CRBV\x01" + pack(">I", 1) + bytes(1),
-            b"CRBZ\x01" + pack(">I", 1) + bytes(1),
-        ]
 
     def name_at(self, stage):
         return next((name for name, host in self.hosts.items() if host.stage == stage), None)
 
-    def send(self, source, kind, epoch, body=(), text=b""):
+    def send(self, source, kind, epoch, body=(), data=b""):
         """The number of the message that the other host is to get; 0 where the bag is full."""
         if len(self.bag) == BAG:
             return 0
         to = "b" if source == "a" else "a"
-        content = pack(">BBQ", kind, to == "b", epoch) + text
+        content = pack(">BBQ", kind, to == "b", epoch) + data
         self.bag.append((to, kind, epoch, body, b"CRBM\x01" + pack(">I", len(content)) + content))
         return len(self.bag)
 
-    def refuse(self, name, epoch):
-        self.hosts[name].stage = "empty"
-        return "refused link sent %d" % self.send(name, REFUSE, epoch, (), pack(">BI", LINK, 0))
-
-    def need(self, name, epoch, part):
-        return "sent %d" % self.send(name, NEED, epoch, (part,), pack(">BI", part, 0))
-
     # The lines of the guest
 
-    def guest(self, word):
+    def guest(self, line):
+        """The reply to a line of the guest."""
         name = self.name_at("running")
         if name is None:
             return "stopped"
-        host = self.hosts[name]
+        word, *rest = line.split()
         if word == "r":
-            return "00000001" if self.lost else "00000002"
+            offset, size = int(rest[0], 16), int(rest[1])
+            return "%0*x" % (2 * size, self.device.read(offset, size))
         if word == "w":
+            self.device.write(int(rest[0], 16), int(rest[1]), int(rest[2], 16))
             return "ok"
-        if word == "work":
-            return "idle"
-        if word == "ask":
-            return "link" if host.fails(2) else "asked"
-        if self.lost:
+        return {"work": self.work, "ask": self.ask, "reset": self.reset}[word](self.hosts[name])
+
+    def ask(self, host):
+        # Where the first of the two calls doesn't fail, the emulator hears of it.
+        heard = host.left != 1
+        fails = host.fails(2)
+        if heard and self.device.phase == EXECUTION and self.device.stage == SENT:
+            self.device.asked = True
+        return "link" if fails else "asked"
+
+    def reset(self, host):
+        if self.device.phase == LOST:
             return "failed device"
+        if self.device.is_under_way():
+            return "not yet"
+        self.device = Device(self.device.number)
         if host.fails(2):
-            self.lost = True
+            self.device.phase = LOST
             return "link"
-        self.boots += 1
+        self.tpm.power_on()
         return "reset"
 
+    def work(self, host):
+        device = self.device
+        if device.phase != EXECUTION:
+            return "idle"
+        word = self.step(host, device)
+        return "%s %d" % (word, device.number)
+
+    def step(self, host, device):
+        if device.stage == WAITING:
+            device.stage = CLAIMED
+            return "claim"
+        if device.stage == CLAIMED and device.cancelled or device.stage == HEADER and device.asked:
+            device.end(short(CANCELED))
+            return "cancelled"
+        if device.stage == HEADER:
+            response = self.tpm.copy().execute(device.command)
+            if host.fails(1 if len(response) > 10 else 0):
+                return self.lose()
+            device.end(self.tpm.execute(device.command))
+            return "done"
+        if host.fails(1):
+            return self.lose()
+        device.stage += 1
+        return "sent" if device.stage == SENT else "exec"
+
+    def lose(self):
+        self.device.phase = LOST
+        return "lost"
+
     # The lines of two hosts
+
+    def line(self, line):
+        """The reply to any line."""
+        word, *rest = line.split()
+        if word == "fail":
+            self.hosts[rest[0]].left = int(rest[1])
+            return "ok"
+        if word in ("deliver", "show"):
+            number = int(rest[0])
+            if number > len(self.bag):
+                return "no message"
+            return self.bag[number - 1][4].hex() if word == "show" else self.deliver(number)
+        lines = {"offer": self.offer, "giveup": self.give_up, "again": self.again}
+        return lines[word]() if word in lines else self.guest(line)
 
     def offer(self):
         name = self.name_at("running")
         if name is None:
             return "stopped"
         host = self.hosts[name]
-        if self.lost:
+        if self.device.phase == LOST:
             return "failed device"
+        if self.device.is_under_way():
+            return "not yet"
         if host.fails(9):
             return "link"
         host.top += 1
         host.stage, host.epoch = "offering", host.top
-        parts = self.offered[host.top] = self.parts()
+        parts = self.offered[host.top] = [self.device.record(), *self.tpm.blobs()]
         number = self.send(name, OFFER, host.top, (), b"".join(pack(">I", len(part)) for part in parts))
         return "offered %d sent %d" % (host.top, number)
 
@@ -118,16 +167,7 @@ class TwoHosts:
             return "not prepared"
         return "sent %d" % self.send(name, PREPARED, self.hosts[name].epoch)
 
-    def show(self, number):
-        return self.bag[number - 1][4].hex() if number <= len(self.bag) else "no message"
-
-    def fail(self, name, call):
-        self.hosts[name].left = call
-        return "ok"
-
     def deliver(self, number):
-        if number > len(self.bag):
-            return "no message"
         name, kind, epoch, body, _ = self.bag[number - 1]
         host = self.hosts[name]
         if kind == OFFER:
@@ -146,31 +186,46 @@ class TwoHosts:
             return "ignored"
         return {NEED: self.give_piece, PIECE: self.take_piece}.get(kind, self.turn)(name, kind, epoch, body)
 
+    def refuse(self, name, epoch):
+        self.hosts[name].stage = "empty"
+        return "refused link sent %d" % self.send(name, REFUSE, epoch, (), pack(">BI", LINK, 0))
+
+    def need(self, name, epoch):
+        host = self.hosts[name]
+        return "sent %d" % self.send(
+            name, NEED, epoch, (host.part, host.place), pack(">BI", host.part, host.place)
+        )
+
     def take_offer(self, name, epoch):
         host = self.hosts[name]
         host.top = epoch
         if host.fails(2):
             return self.refuse(name, epoch)
-        host.stage, host.epoch, host.part = "filling", epoch, 0
-        return self.need(name, epoch, 0)
+        host.stage, host.epoch, host.part, host.place = "filling", epoch, 0, 0
+        return self.need(name, epoch)
 
     def give_piece(self, name, _, epoch, body):
-        (part,) = body
-        if self.hosts[name].fails(3 if part else 0):
+        part, place = body
+        if self.hosts[name].fails(CALLS[part]):
             return "link"
-        text = self.offered[epoch][part]
-        return "sent %d" % self.send(name, PIECE, epoch, body, pack(">BIH", part, 0, len(text)) + text)
+        data = self.offered[epoch][part][place : place + self.piece]
+        head = pack(">BIH", part, place, len(data))
+        return "sent %d" % self.send(name, PIECE, epoch, (part, place, len(data)), head + data)
 
     def take_piece(self, name, _, epoch, body):
         host = self.hosts[name]
-        (part,) = body
-        if part != host.part:
+        part, place, count = body
+        if (part, place) != (host.part, host.place):
             return "ignored"
-        if host.fails((0, 3, 3, 5)[part]):
+        is_whole = place + count == len(self.offered[epoch][part])
+        # With the last piece of all the emulator is switched on.
+        if host.fails(5 if is_whole and part == 3 else CALLS[part]):
             return self.refuse(name, epoch)
-        if part < 3:
-            host.part += 1
-            return self.need(name, epoch, host.part)
+        host.place += count
+        if is_whole:
+            host.part, host.place = part + 1, 0
+        if host.part < 4:
+            return self.need(name, epoch)
         host.stage = "prepared"
         return "sent %d" % self.send(name, PREPARED, epoch)
 
@@ -181,47 +236,3 @@ class TwoHosts:
             return "sent %d" % self.send(name, COMMIT, epoch)
         host.stage = "empty" if kind == ABORT else "running"
         return {COMMIT: "running", ABORT: "took", REFUSE: "resumed"}[kind]
-
-
-def random_line(draw, model):
-    """A line that does something most of the time, and its reply."""
-    sent = len(model.bag)
-    word = draw.choices(
-        ("latest", "any", "offer", "giveup", "again", "show", "fail", "r", "work", "ask", "reset"),
-        (60, 12, 10, 2, 4, 2, 3, 6, 2, 2, 0.3),
-    )[0]
-    if word in ("latest", "any", "show"):
-        number = max(sent, 1) if word == "latest" else draw.randint(1, sent + 1)
-        if word == "show":
-            return "show %d" % number, model.show(number)
-        return "deliver %d" % number, model.deliver(number)
-    if word == "fail":
-        name, call = draw.choice("ab"), draw.randint(1, 30)
-        return "fail %s %d" % (name, call), model.fail(name, call)
-    if word in ("offer", "giveup", "again"):
-        return word, {"offer": model.offer, "giveup": model.give_up, "again": model.again}[word]()
-    return "r 44 4" if word == "r" else word, model.guest(word)
-
-
-def texts(rows):
-    """The script and the output of lines with their replies."""
-    return [b"".join(b"%s\n" % row[at].encode() for row in rows) for at in (0, 1)]
-
-
-def random_script(seed, size):
-    """A script of so many lines, and its output."""
-    draw, model = random.Random(seed), TwoHosts()
-    return texts([random_line(draw, model) for _ in range(size)])
-
-
-def full_bag():
-    """A script whose last message but one takes the last place in the bag, and its output."""
-    model = TwoHosts()
-    rows = []
-    for _ in range(BAG // 2 - 1):
-        rows += [("offer", model.offer()), ("giveup", model.give_up())]
-    rows.append(("offer", model.offer()))
-    for number in (BAG - 1, BAG, BAG, BAG + 1):
-        rows.append(("deliver %d" % number, model.deliver(number)))
-    rows += [("show %d" % BAG, model.show(BAG)), ("giveup", model.give_up()), ("r 44 4", model.guest("r"))]
-    return texts(rows)

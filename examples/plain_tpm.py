@@ -1,0 +1,215 @@
+"""A plain model of the TPM: five commands and one bank of SHA-256 registers.
+
+It follows the tables of docs/TPM.md and docs/STATE.md, and shares nothing with the program.
+"""
+import hashlib
+from struct import pack, unpack
+
+NO_SESSIONS, SESSIONS, OLD_TAG = 0x8001, 0x8002, 0x00C4
+STARTUP, SHUTDOWN, GET_RANDOM, PCR_READ, PCR_EXTEND = 0x144, 0x145, 0x17B, 0x17E, 0x182
+SHA256 = 0x000B
+PASSWORD, NO_REGISTER = 0x40000009, 0x40000007
+COUNT, DIGEST = 24, 32
+ZEROS, ONES = bytes(DIGEST), b"\xff" * DIGEST
+BAD_TAG, CANCELED = 0x1E, 0x909
+
+
+def short(code):
+    """A response that has a code alone."""
+    return pack(">HII", OLD_TAG if code == BAD_TAG else NO_SESSIONS, 10, code)
+
+
+def blob(magic, body):
+    return magic + b"\x01" + pack(">I", len(body)) + body
+
+
+class Refused(Exception):
+    """A command is answered by this code alone."""
+
+
+class Cut(Exception):
+    """A parameter isn't there."""
+
+
+class Reader:
+    def __init__(self, data):
+        self.data = data
+
+    def take(self, count):
+        if count > len(self.data):
+            raise Cut
+        taken, self.data = self.data[:count], self.data[count:]
+        return taken
+
+    def number(self, count):
+        return int.from_bytes(self.take(count), "big")
+
+
+class Tpm:
+    def __init__(self, seed=bytes(32)):
+        self.seed = seed
+        self.boots = 1
+        self.saved = None
+        self.forget()
+
+    def forget(self):
+        """What a power cycle takes away."""
+        self.started = False
+        self.draws = self.counter = 0
+        self.registers = [ZEROS] * COUNT
+
+    def copy(self):
+        other = Tpm(self.seed)
+        other.__dict__.update(self.__dict__, registers=list(self.registers))
+        return other
+
+    def power_on(self):
+        self.boots = (self.boots + 1) % 2**64
+        self.forget()
+
+    def execute(self, command):
+        """The response to a command. Where it is refused, nothing is changed."""
+        try:
+            code, handle, parameters = self.read(command)
+            tag, body = self.do(code, handle, parameters)
+        except Refused as refused:
+            return short(refused.args[0])
+        return pack(">HII", tag, 10 + len(body), 0) + body
+
+    # The checks, in their order
+
+    def read(self, command):
+        if len(command) < 10:
+            raise Refused(0x142)
+        tag, size, code = unpack(">HII", command[:10])
+        if tag not in (NO_SESSIONS, SESSIONS):
+            raise Refused(BAD_TAG)
+        if size != len(command):
+            raise Refused(0x142)
+        if code not in (STARTUP, SHUTDOWN, GET_RANDOM, PCR_READ, PCR_EXTEND):
+            raise Refused(0x143)
+        if self.started == (code == STARTUP):
+            raise Refused(0x100)
+        if code == PCR_EXTEND and tag == NO_SESSIONS:
+            raise Refused(0x125)
+        if code != PCR_EXTEND and tag == SESSIONS:
+            raise Refused(0x145)
+        rest, handle = command[10:], None
+        if code == PCR_EXTEND:
+            handle, rest = self.authorised(rest)
+        reader = Reader(rest)
+        try:
+            parameters = self.parameters(code, reader)
+        except Cut:
+            raise Refused(0x1DA) from None
+        if reader.data:
+            raise Refused(0x1D5)
+        if handle is not None and 17 <= handle <= 22:
+            raise Refused(0x907)
+        return code, handle, parameters
+
+    @staticmethod
+    def authorised(rest):
+        """The handle, and what stands behind an authorisation by an empty password."""
+        if len(rest) < 4:
+            raise Refused(0x19A)
+        handle = int.from_bytes(rest[:4], "big")
+        if handle >= COUNT and handle != NO_REGISTER:
+            raise Refused(0x184)
+        size, rest = rest[4:8], rest[8:]
+        if len(size) < 4 or not 9 <= int.from_bytes(size, "big") <= len(rest):
+            raise Refused(0x144)
+        size = int.from_bytes(size, "big")
+        session, nonce, _, password = unpack(">IHBH", rest[:9])
+        if session != PASSWORD:
+            raise Refused(0x984)
+        if nonce != 0 or 9 + password != size:
+            raise Refused(0x144)
+        if password != 0:
+            raise Refused(0x9A2)
+        return handle, rest[size:]
+
+    def parameters(self, code, reader):
+        if code in (STARTUP, SHUTDOWN):
+            kind = reader.number(2)
+            if kind > 1 or (code == STARTUP and kind == 1 and self.saved is None):
+                raise Refused(0x1C4)
+            return kind
+        if code == GET_RANDOM:
+            return reader.number(2)
+        count = reader.number(4)
+        if count > 16:
+            raise Refused(0x1D5)
+        entries = []
+        for _ in range(count):
+            if reader.number(2) != SHA256:
+                raise Refused(0x1C3)
+            if code == PCR_EXTEND:
+                entries.append(reader.take(DIGEST))
+                continue
+            if reader.number(1) != 3:
+                raise Refused(0x1C4)
+            entries.append(reader.take(3))
+        return entries
+
+    # What each command does
+
+    def do(self, code, handle, parameters):
+        if code == STARTUP:
+            return NO_SESSIONS, self.start(parameters)
+        if code == SHUTDOWN:
+            self.saved = (self.counter, self.registers[:16]) if parameters == 1 else None
+            return NO_SESSIONS, b""
+        if code == GET_RANDOM:
+            return NO_SESSIONS, self.random(parameters)
+        if code == PCR_READ:
+            return NO_SESSIONS, self.read_registers(parameters)
+        if handle != NO_REGISTER:
+            self.extend(handle, parameters)
+        return SESSIONS, bytes.fromhex("000000000000010000")
+
+    def start(self, kind):
+        self.counter, kept = self.saved if kind == 1 else (0, [ZEROS] * 16)
+        self.registers = list(kept) + [ZEROS] + [ONES] * 6 + [ZEROS]
+        self.started, self.saved = True, None
+        return b""
+
+    def random(self, asked):
+        if asked == 0:
+            return bytes(2)
+        block = hashlib.sha256(b"CRBR" + self.seed + pack(">QQ", self.boots, self.draws)).digest()
+        self.draws = (self.draws + 1) % 2**64
+        count = min(asked, DIGEST)
+        return pack(">H", count) + block[:count]
+
+    def read_registers(self, maps):
+        read, digests = [], []
+        for chosen in maps:
+            shown = [0, 0, 0]
+            for i in range(COUNT):
+                if chosen[i // 8] >> i % 8 & 1 and len(digests) < 8:
+                    shown[i // 8] |= 1 << i % 8
+                    digests.append(self.registers[i])
+            read.append(pack(">HB", SHA256, 3) + bytes(shown))
+        head = pack(">II", self.counter, len(maps)) + b"".join(read) + pack(">I", len(digests))
+        return head + b"".join(pack(">H", DIGEST) + digest for digest in digests)
+
+    def extend(self, register, digests):
+        for digest in digests:
+            self.registers[register] = hashlib.sha256(self.registers[register] + digest).digest()
+            self.counter = (self.counter + 1) % 2**32
+        if digests:
+            self.saved = None
+
+    def blobs(self):
+        """Its permanent, its volatile and its saved state."""
+        volatile, saved = b"\x00", b"\x00"
+        if self.started:
+            volatile = b"\x01" + pack(">QI", self.draws, self.counter) + b"".join(self.registers)
+        if self.saved is not None:
+            saved = b"\x01" + pack(">I", self.saved[0]) + b"".join(self.saved[1])
+        return [
+            blob(b"CRBP", self.seed + pack(">Q", self.boots)),
+            blob(b"CRBV", volatile),
+            blob(b"CRBZ", saved),
+        ]
