@@ -1,0 +1,51 @@
+use Rattle.std.proofs.Common.{◌≡◌, Bool, true, ℕ, sym, ◌∙◌, ap, subst}
+use Rattle.std.proofs.lemmas.Result.{on_ok_weaker}
+use Rattle.own_store.specs.Disk.{Image, Torn, MakesCalls}
+use Rattle.own_store.specs.Slots.{place, other, is_open, stored, in_force, calls_to_close}
+use Rattle.own_store.specs.declared.slot.Slot.{Slot}
+use Rattle.own_store.proofs.Moments.{after_write, after_sync}
+use Rattle.own_store.proofs.Slots.{closing, closed_gate, gate_other_open}
+use Rattle.own_store.proofs.Runs.{and_call}
+use Rattle.own_store.proofs.parts.close_gate.Goals as goal
+
+-- what the write leaves, at the place that the code computed
+closing_at : (old : Image) (s : Slot) (at : ℕ) → at ≡ place s → is_open old s ≡ true → in_force old ≡ stored old (other s) → (c : Image) → Torn at 1 old c → in_force c ≡ in_force old
+closing_at old s at is was unused c torn = closing old s was unused c (subst (λ (n : ℕ). Torn n 1 old c) is torn)
+
+pub returns-in_err-write_at-clause-any_moment : goal.returns-in_err-write_at-clause-any_moment
+returns-in_err-write_at-clause-any_moment g c =
+    let r = c.requires in
+    after_write g.D.Disk.moment g.D.Disk.left_since g.D.Disk.may_leave g.D.Disk.content c.place.result 1
+    (λ (d : Image). in_force d ≡ in_force (g.D.Disk.content c.args.disk.now)) c.args.disk.now c.write_at.new.self
+    (g.met.D.Disk.only_now c.args.disk.now) r.durable (closing_at _ c.args.slot _ c.place.ensures (r.gate ∙ c.if-not-was_open.false) r.unused)
+    c.write_at.ensures.crash c.write_at.ensures.time
+
+pub returns-clause-any_moment : goal.returns-clause-any_moment
+returns-clause-any_moment g c =
+    let r = c.requires in
+    after_sync g.D.Disk.moment g.D.Disk.left_since g.D.Disk.may_leave g.D.Disk.content c.place.result 1
+    (λ (d : Image). in_force d ≡ in_force (g.D.Disk.content c.args.disk.now)) c.args.disk.now c.write_at.new.self
+    (g.met.D.Disk.only_now c.args.disk.now) r.durable (closing_at _ c.args.slot _ c.place.ensures (r.gate ∙ c.if-not-was_open.false) r.unused)
+    c.write_at.ensures.crash c.write_at.ensures.time c.sync.new.self c.sync.ensures.crash c.sync.ensures.time
+
+pub returns-clause-closed : goal.returns-clause-closed
+returns-clause-closed g c =
+    on_ok_weaker c.sync.result (λ same. ap (λ (d : Image). is_open d c.args.slot) same ∙ closed_gate _ c.args.slot _ c.place.ensures c.in_ok-write_at.ensures.written.range) c.sync.ensures.content
+
+pub returns-clause-force : goal.returns-clause-force
+returns-clause-force g c =
+    let r = c.requires in
+    on_ok_weaker c.sync.result (λ same. ap in_force same ∙ closing_at _ c.args.slot _ c.place.ensures (r.gate ∙ c.if-not-was_open.false) r.unused _ c.in_ok-write_at.ensures.written.elsewhere) c.sync.ensures.content
+
+pub returns-clause-other_gate : goal.returns-clause-other_gate
+returns-clause-other_gate g c =
+    on_ok_weaker c.sync.result
+    (λ same.
+    ap (λ (d : Image). is_open d (other c.args.slot)) same
+    ∙ gate_other_open _ _ c.args.slot (subst (λ (n : ℕ). Torn n 1 (g.D.Disk.content c.args.disk.now) (g.D.Disk.content c.write_at.new.self)) c.place.ensures c.in_ok-write_at.ensures.written.elsewhere))
+    c.sync.ensures.content
+
+pub returns-clause-calls : goal.returns-clause-calls
+returns-clause-calls g c =
+    subst (λ (b : Bool). MakesCalls g.D.Disk.calls_done g.D.Disk.fails_at (calls_to_close b) c.args.disk.now c.sync.new.self c.sync.result) (sym c.if-not-was_open.false)
+    (and_call g.D.Disk.calls_done g.D.Disk.fails_at g.met.D.Disk.calls_join g.met.D.Disk.failure_joins c.args.disk.now c.write_at.new.self c.sync.new.self 1 c.sync.result c.in_ok-write_at.ensures.calls c.sync.ensures.calls)

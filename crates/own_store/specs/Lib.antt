@@ -1,0 +1,11 @@
+pub mod Disk
+pub mod Slots
+pub mod Body
+pub mod Ledger
+pub mod Finding
+pub mod Steps
+pub mod Logged
+pub mod MemDisk
+pub mod Injected
+pub mod InjectedLaws
+pub mod StepLaws
