@@ -1,4 +1,4 @@
--- The numbers of the generator, and of the commands that it makes.
+-- The numbers of the generator, and of the bodies of the commands that it makes.
 use Rattle.std.specs.Prelude.{ℕ}
 
 -- ---- the generator (own)
@@ -11,33 +11,9 @@ multiplier = 6364136223846793005
 abbrev pub increment : ℕ
 increment = 1442695040888963407
 
--- ---- tags, TPM_ST (TPM 2.0 Library, part 2, section 6.9)
+-- ---- in the bodies of commands; tags and codes are tpm_frame's
 
--- a command without authorisations
-abbrev pub no_sessions : ℕ
-no_sessions = 0x8001
-
--- a command with authorisations
-abbrev pub sessions : ℕ
-sessions = 0x8002
-
--- ---- command codes, TPM_CC (part 2, section 6.5)
-
-abbrev pub startup_code : ℕ
-startup_code = 0x144
-
-abbrev pub get_random_code : ℕ
-get_random_code = 0x17B
-
-abbrev pub pcr_read_code : ℕ
-pcr_read_code = 0x17E
-
-abbrev pub pcr_extend_code : ℕ
-pcr_extend_code = 0x182
-
--- ---- in the commands' bodies
-
--- TPM_SU_CLEAR (part 2, section 6.10)
+-- TPM_SU_CLEAR (TPM 2.0 Library, part 2, section 6.10)
 abbrev pub clear : ℕ
 clear = 0
 

@@ -14,8 +14,9 @@
 //!
 //! The format is our own, and each value has one encoding: the magic `CRBD`, a version, the number of bytes that
 //! follow, the registers, the job that waits, and the buffer without the zeros at its end. Bytes that are no record are
-//! refused from the left, each field when all its bytes are there, and the device is left as it was. Neither call takes
-//! memory. Where the bytes are kept, and when a device may be taken apart, is left to others.
+//! refused from the left, each field when all its bytes are there, and the device is left as it was. [`check_record`]
+//! refuses the same with no device. None of the calls takes memory. Where the bytes are kept, and when a device may be
+//! taken apart, is left to others.
 #![tactic(auto)]
 
 mod fields;
@@ -27,4 +28,4 @@ mod record;
 mod writing;
 
 pub use format::{LARGEST_LENGTH, MAGIC, RECORD_ROOM, SMALLEST_LENGTH};
-pub use record::{load_record, write_record};
+pub use record::{check_record, load_record, write_record};

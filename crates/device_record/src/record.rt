@@ -39,6 +39,15 @@ pub fn write_record<P: Port>(device: &Device<P>, into: &mut [u8; RECORD_ROOM]) -
     HEADER_SIZE + count
 }
 
+/// Whether these bytes are a record, and why not, with no device.
+pub fn check_record(bytes: &[u8]) -> Result<(), Malformed>
+    ensures ok { OnOk result ((v : DeviceValues) × IsRecord bytes.now v) }
+    ensures refused { IfErr result (λ fault. IsRefused fault bytes.now) }
+{
+    fields_in(bytes)?;
+    Ok(())
+}
+
 /// Gives a held device the values of the record that these bytes are. Bytes that are none are refused, and then nothing is
 /// changed. The device stays held.
 pub fn load_record<P: Port>(device: &mut Device<P>, bytes: &[u8]) -> Result<(), Malformed>

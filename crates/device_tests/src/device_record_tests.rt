@@ -69,6 +69,7 @@ fn writes(device: &Device<PlainPort>, record: &[u8]) -> bool {
 /// Whether a device has this record, and another device has it once it was loaded.
 fn both_ways(device: &Device<PlainPort>, other: &mut Device<PlainPort>, record: &[u8]) -> bool {
     writes(device, record)
+        && check_record(record) == Ok(())
         && other.is_held()
         && load_record(other, record) == Ok(())
         && writes(other, record)

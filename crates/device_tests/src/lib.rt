@@ -1,4 +1,5 @@
-//! Tests of the guest's side: the ground, the registers, the port, the device, its record and the driver.
+//! Tests of the guest's side: the ground, the registers, the port, the device, its record and the driver; and of the
+//! ledger.
 //!
 //! They compare with values from outside, and make each public call once. What a clause says isn't tried again here.
 #![tactic(auto)]
@@ -13,5 +14,7 @@ mod crb_port_tests;
 mod crb_regs_tests;
 #[cfg(test)]
 mod device_record_tests;
+#[cfg(test)]
+mod own_store_tests;
 #[cfg(test)]
 mod vt_base_tests;
