@@ -1,3 +1,4 @@
+mod WorkedHistories
 pub mod Bytes
 pub mod Phases
 pub mod CancelledBeforeClaim

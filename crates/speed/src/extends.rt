@@ -2,7 +2,7 @@
 
 use sha2::{Digest, Sha256};
 use std::alloc::{AllocError, Global};
-use tpm_core::Tpm;
+use tpm_core::{Banks, Tpm};
 use vt_base::Buf;
 
 /// TPM2_Startup(CLEAR).
@@ -18,7 +18,7 @@ const DIGEST: [u8; 32] = [0; 32];
 
 /// Register 0 after so many extends of a new TPM that was started.
 pub(crate) fn extended(alloc: Global, count: u32) -> Result<[u8; 32], AllocError> {
-    let mut tpm = Tpm::manufacture([0; 32]);
+    let mut tpm = Tpm::manufacture([0; 32], Banks::One);
     tpm.power_on();
     let mut response = Buf::new(alloc)?;
     Ok(extends(&mut tpm, &mut response, count))

@@ -5,17 +5,20 @@ use Rattle.std.proofs.lemmas.Bool.{cases_eq, ltb-true}
 use Rattle.std.proofs.lemmas.List.{length-set, get_or-set_same, get_or-set_other, get_or-take, get_or-replicate, length-replicate, length-take}
 use Rattle.std.proofs.lemmas.List.FromFn.{fill_by_all}
 use Rattle.tpm_core.specs.declared.algorithm.Algorithm.{Algorithm}
-use Rattle.tpm_core.specs.declared.algorithm.Algorithm.TheVariants.{Sha256}
+use Rattle.tpm_core.specs.declared.algorithm.Algorithm.TheVariants.{Sha256, Sha384}
+use Rattle.tpm_core.specs.declared.algorithm.Banks.{Banks}
+use Rattle.tpm_core.specs.declared.algorithm.Measurement.{Measurement}
 use Rattle.tpm_core.specs.declared.parts.SavedParts.{SavedParts}
 use Rattle.tpm_core.specs.declared.parts.TpmParts.{TpmParts}
-use Rattle.tpm_core.specs.Algorithms.{digest_size, digest_of, digests_by}
-use Rattle.tpm_core.specs.Banks.{zeros, ones, is_dynamic, blank_bank, each_register, start_value, hashed, bank_of, kept_bank_of}
+use Rattle.tpm_core.specs.Algorithms.{digest_size, digest_of, has_bank, digests_by}
+use Rattle.tpm_core.specs.Banks.{zeros, ones, is_dynamic, blank_bank, each_register, start_value, hashed, blank_kept, bank_extended, bank_of, kept_bank_of, with_banks, state_of, MissingAreBlank, MissingAreBlankInState}
 use Rattle.tpm_core.specs.Fresh.{manufactured}
 use Rattle.sha2.proofs.Facts256.{length-sha256}
+use Rattle.sha2.proofs.Facts512.{length-sha384}
 use Rattle.tpm_core.specs.Past.{StateChange, booted, started, shut_down, drew, extended, boots_of, is_started, draws_of, saved_state, starting_value, starting_counter, digests_since, count_since, register_value, counter_of, values, value_at_start, counter_at_start}
 use Rattle.tpm_core.specs.Answers.{kept}
-use Rattle.tpm_core.specs.Steps.{IsValid, IsKept, IsStopped, HaveWidth, after, CanDo}
-use Rattle.tpm_core.proofs.Looking.{same_parts, same_bank, get_register, length-each_register, values-booted, values-started, values-shut_down, values-drew, values-extended}
+use Rattle.tpm_core.specs.Steps.{IsValid, IsKept, IsStopped, HaveWidth, bank_at_start, bank_after_extend, after, CanDo}
+use Rattle.tpm_core.proofs.Looking.{same_parts, bank_in, bank_missing, if_false, same_bank, get_register, length-each_register, values-booted, values-started, values-shut_down, values-drew, values-extended}
 
 -- one more state change
 pub values-cons : (b : TpmParts) (past : List StateChange) (change : StateChange) → CanDo (values b past) change → values b (change ∷ past) ≡ after (values b past) change
@@ -26,25 +29,26 @@ values-cons b past drew can = values-drew b past
 values-cons b past (extended i measurements) can = values-extended b past i measurements can.0 can.1
 
 -- with no state change the values are those of b
-value_on : (b : TpmParts) (a : Algorithm) → b.started ≡ true → (i : ℕ) → register_value b [] a i ≡ get_or (bank_of a b) i []
+value_on : (b : TpmParts) (a : Algorithm) → b.started ≡ true → has_bank b.banks a ≡ true → (i : ℕ) → register_value b [] a i ≡ get_or (bank_of a b) i []
 unfolding register_value is_started starting_value digests_since
-value_on b a on i = rw on refl
+value_on b a on has i = rw (on, has) refl
 
 value_off : (b : TpmParts) (a : Algorithm) → b.started ≡ false → (i : ℕ) → register_value b [] a i ≡ zeros (digest_size a)
 unfolding register_value is_started
 value_off b a off i = rw off refl
 
-bank_on : (b : TpmParts) (a : Algorithm) → IsValid b → b.started ≡ true → each_register (register_value b [] a) ≡ bank_of a b
+bank_on : (b : TpmParts) (a : Algorithm) → IsValid b → b.started ≡ true → has_bank b.banks a ≡ true → each_register (register_value b [] a) ≡ bank_of a b
 unfolding each_register
-bank_on b a fit on = same_bank (register_value b [] a) (λ i. get_or (bank_of a b) i []) (value_on b a on) ∙ sym (fill_by_all (λ i. get_or (bank_of a b) i []) (bank_of a b) 24 [] (fit.registers a) (λ k lt. refl))
+bank_on b a fit on has = same_bank (register_value b [] a) (λ i. get_or (bank_of a b) i []) (value_on b a on has) ∙ sym (fill_by_all (λ i. get_or (bank_of a b) i []) (bank_of a b) 24 [] (fit.registers a) (λ k lt. refl))
 
 bank_off : (b : TpmParts) (a : Algorithm) → b.started ≡ false → each_register (register_value b [] a) ≡ blank_bank a
 unfolding each_register blank_bank
 bank_off b a off = same_bank (register_value b [] a) (λ i. zeros (digest_size a)) (value_off b a off)
 
-bank_of_b : (b : TpmParts) → IsValid b → (on : Bool) → b.started ≡ on → each_register (register_value b [] Sha256) ≡ b.pcr
-bank_of_b b fit true on = bank_on b Sha256 fit on
-bank_of_b b fit false off = bank_off b Sha256 off ∙ sym (fit.stopped off).pcr
+bank_of_b : (b : TpmParts) (a : Algorithm) → IsValid b → (on has : Bool) → b.started ≡ on → has_bank b.banks a ≡ has → each_register (register_value b [] a) ≡ bank_of a b
+bank_of_b b a fit true true on has = bank_on b a fit on has
+bank_of_b b a fit true false on none = bank_missing b [] a none ∙ sym (fit.missing a none)
+bank_of_b b a fit false has off e = bank_off b a off ∙ sym ((fit.stopped off).blank a)
 
 counter_of_b : (b : TpmParts) → IsValid b → (on : Bool) → b.started ≡ on → counter_of b [] ≡ b.counter
 unfolding counter_of is_started starting_counter count_since
@@ -53,7 +57,7 @@ counter_of_b b fit false off = rw off (sym (fit.stopped off).counter)
 
 pub values-nil : (b : TpmParts) → IsValid b → values b [] ≡ b
 unfolding values boots_of is_started draws_of saved_state
-values-nil b fit = same_parts _ _ refl (omega (arith, fit.boots)) (omega (arith, fit.draws)) refl (bank_of_b b fit b.started refl) (counter_of_b b fit b.started refl) refl
+values-nil b fit = same_parts _ _ refl (omega (arith, fit.boots)) (omega (arith, fit.draws)) refl refl (λ a. bank_in a (λ k. each_register (register_value b [] k)) (values b []) ∙ bank_of_b b a fit b.started (has_bank b.banks a) refl refl) (counter_of_b b fit b.started refl) refl
 
 if_width : (n : ℕ) (b : Bool) (x y : List ℕ) → (b ≡ true → length x ≡ n) → length y ≡ n → length (cond b x y) ≡ n
 if_width n true x y p q = p refl
@@ -63,6 +67,7 @@ if_width n false x y p q = q
 
 length-digest_of : (a : Algorithm) (message : List ℕ) → length (digest_of a message) ≡ digest_size a
 length-digest_of Sha256 message = length-sha256 message
+length-digest_of Sha384 message = length-sha384 message
 
 length-hashed : (a : Algorithm) (old : List ℕ) (digests : List (List ℕ)) → length old ≡ digest_size a → length (hashed a old digests) ≡ digest_size a
 length-hashed a old [] h = h
@@ -85,11 +90,26 @@ extended_width a registers i digests size lt h k below =
 kept_width : (a : Algorithm) (registers : List (List ℕ)) → HaveWidth a 24 registers → HaveWidth a 16 (take 16 registers)
 kept_width a registers h i lt = ap length (get_or-take 16 registers i [] lt) ∙ h i (omega arith)
 
+-- what a shutdown keeps of a bank
+kept_bank_in : (a : Algorithm) (counter : ℕ) (bank : Algorithm → List (List ℕ)) → kept_bank_of a (state_of counter bank) ≡ bank a
+kept_bank_in Sha256 counter bank = refl
+kept_bank_in Sha384 counter bank = refl
+
+kept_bank_is : (a : Algorithm) (v : TpmParts) → kept_bank_of a (kept v) ≡ take 16 (bank_of a v)
+kept_bank_is a v = kept_bank_in a v.counter (λ k. take 16 (bank_of k v))
+
 kept_bank : (a : Algorithm) (v : TpmParts) → IsValid v → HaveWidth a 16 (kept_bank_of a (kept v))
-kept_bank Sha256 v fit = kept_width Sha256 v.pcr (fit.width Sha256)
+kept_bank a v fit = subst (HaveWidth a 16) (sym (kept_bank_is a v)) (kept_width a (bank_of a v) (fit.width a))
 
 length-kept_bank : (a : Algorithm) (v : TpmParts) → IsValid v → length (kept_bank_of a (kept v)) ≡ 16
-length-kept_bank Sha256 v fit = omega (arith, length-take 16 v.pcr, fit.registers Sha256)
+length-kept_bank a v fit = ap length (kept_bank_is a v) ∙ omega (arith, length-take 16 (bank_of a v), fit.registers a)
+
+take_blank : (a : Algorithm) → take 16 (blank_bank a) ≡ blank_kept a
+unfolding blank_bank blank_kept
+take_blank a = refl
+
+kept_blank : (v : TpmParts) → IsValid v → MissingAreBlankInState v.banks (kept v)
+kept_blank v fit a none = kept_bank_is a v ∙ ap (take 16) (fit.missing a none) ∙ take_blank a
 
 kept_is_kept : (v : TpmParts) → IsValid v → IsKept (kept v)
 kept_is_kept v fit = record { counter = fit.counter; registers = λ a. length-kept_bank a v fit; width = λ a. kept_bank a v fit }
@@ -102,7 +122,7 @@ true_off : (b : Bool) → b ≡ true → b ≡ false → ⊥
 true_off b p q = cc
 
 still_stopped : (v : TpmParts) (state : Option SavedParts) → IsStopped v → IsStopped (record v { saved = state })
-still_stopped v state h = record { draws = h.draws; counter = h.counter; pcr = h.pcr }
+still_stopped v state h = record { draws = h.draws; counter = h.counter; blank = λ a. bank_in a (λ k. bank_of k v) (record v { saved = state }) ∙ h.blank a }
 
 -- ---- each bank of the values that a state change leaves
 
@@ -117,106 +137,142 @@ blank_is_bank a = (length-replicate 24 (zeros (digest_size a)), λ i lt. ap leng
 started_is_bank : (a : Algorithm) (state : Option SavedParts) → IfSome state IsKept → IsBank a (each_register (value_at_start a state))
 started_is_bank a state h = (length-each_register (value_at_start a state), λ i lt. ap length (get_register (value_at_start a state) i lt) ∙ length-value_at_start a state h i)
 
-extended_is_bank : (a : Algorithm) (bank : List (List ℕ)) (i : ℕ) (digests : List (List ℕ)) → IsBank a bank → i < 24 → IsBank a (set bank i (hashed a (get_or bank i []) digests))
-extended_is_bank a bank i digests h lt = (length-set bank i (hashed a (get_or bank i []) digests) ∙ h.0, extended_width a bank i digests h.0 lt h.1)
+extended_is_bank : (a : Algorithm) (bank : List (List ℕ)) (i : ℕ) (measurements : List Measurement) → IsBank a bank → i < 24 → IsBank a (bank_extended a bank i measurements)
+extended_is_bank a bank i measurements h lt =
+    let digests = digests_by a measurements in
+    (length-set bank i (hashed a (get_or bank i []) digests) ∙ h.0, extended_width a bank i digests h.0 lt h.1)
 
--- what holds of the bank of each algorithm
-each : (P : Algorithm → Type 0) → P Sha256 → (a : Algorithm) → P a
-each P p Sha256 = p
+if_bank : (a : Algorithm) (has : Bool) (x y : List (List ℕ)) → IsBank a x → IsBank a y → IsBank a (cond has x y)
+if_bank a true x y p q = p
+if_bank a false x y p q = q
 
-banks_of : (v : TpmParts) → IsBank Sha256 v.pcr → (a : Algorithm) → IsBank a (bank_of a v)
-banks_of v p = each (λ a. IsBank a (bank_of a v)) p
+-- banks that a TPM can have
+abbrev BanksFit : Banks → (Algorithm → List (List ℕ)) → Type 0
+BanksFit banks bank = ((a : Algorithm) → IsBank a (bank a)) × MissingAreBlank banks bank
 
-pub fit-manufactured : (seed : List ℕ) → length seed ≡ 32 → IsValid (manufactured seed)
-fit-manufactured seed size =
-    let banks = banks_of (manufactured seed) (blank_is_bank Sha256) in
+-- so are those of values that were given them
+given : (bank : Algorithm → List (List ℕ)) (v : TpmParts) → BanksFit v.banks bank → BanksFit v.banks (λ a. bank_of a (with_banks bank v))
+given bank v h = (λ a. subst (λ (x : List (List ℕ)). IsBank a x) (sym (bank_in a bank v)) (h.0 a), λ a none. bank_in a bank v ∙ h.1 a none)
+
+own : (v : TpmParts) → IsValid v → BanksFit v.banks (λ a. bank_of a v)
+own v fit = (λ a. (fit.registers a, fit.width a), fit.missing)
+
+blank_fit : (banks : Banks) → BanksFit banks blank_bank
+blank_fit banks = (blank_is_bank, λ a none. refl)
+
+started_fit : (banks : Banks) (state : Option SavedParts) → IfSome state IsKept → BanksFit banks (λ a. bank_at_start banks a state)
+started_fit banks state h =
+    (λ a. if_bank a (has_bank banks a) (each_register (value_at_start a state)) (blank_bank a) (started_is_bank a state h) (blank_is_bank a), λ a none. if_false (has_bank banks a) (each_register (value_at_start a state)) (blank_bank a) none)
+
+extended_fit : (v : TpmParts) (i : ℕ) (measurements : List Measurement) → IsValid v → i < 24 → BanksFit v.banks (λ a. bank_after_extend v.banks a (bank_of a v) i measurements)
+extended_fit v i measurements fit lt =
+    let old = own v fit in
+    (λ a. if_bank a (has_bank v.banks a) (bank_extended a (bank_of a v) i measurements) (bank_of a v) (extended_is_bank a (bank_of a v) i measurements (old.0 a) lt) (old.0 a), λ a none. if_false (has_bank v.banks a) (bank_extended a (bank_of a v) i measurements) (bank_of a v) none ∙ fit.missing a none)
+
+pub fit-manufactured : (seed : List ℕ) (banks : Banks) → length seed ≡ 32 → IsValid (manufactured seed banks)
+fit-manufactured seed number size =
+    let banks = given blank_bank (manufactured seed number) (blank_fit number) in
     record {
       seed = size;
       boots = omega arith;
       draws = omega arith;
       counter = omega arith;
-      registers = λ a. (banks a).0;
-      width = λ a. (banks a).1;
-      stopped = λ off. record { draws = refl; counter = refl; pcr = refl };
+      registers = λ a. (banks.0 a).0;
+      width = λ a. (banks.0 a).1;
+      missing = banks.1;
+      kept_missing = tt;
+      stopped = λ off. record { draws = refl; counter = refl; blank = λ a. bank_in a blank_bank (manufactured seed number) };
       kept_fits = tt;
       kept_agrees = λ on. tt;
     }
 
 pub fit-after : (v : TpmParts) (change : StateChange) → IsValid v → CanDo v change → IsValid (after v change)
 fit-after v booted fit can =
-    let banks = banks_of (after v booted) (blank_is_bank Sha256) in
+    let banks = given (blank_bank) (after v booted) (blank_fit v.banks) in
     record {
       seed = fit.seed;
       boots = omega arith;
       draws = omega arith;
       counter = omega arith;
-      registers = λ a. (banks a).0;
-      width = λ a. (banks a).1;
-      stopped = λ off. record { draws = refl; counter = refl; pcr = refl };
+      registers = λ a. (banks.0 a).0;
+      width = λ a. (banks.0 a).1;
+      missing = banks.1;
+      kept_missing = fit.kept_missing;
+      stopped = λ off. record { draws = refl; counter = refl; blank = λ a. bank_in a blank_bank (after v booted) };
       kept_fits = fit.kept_fits;
       kept_agrees = λ on. absurd cc;
     }
 fit-after v (started state) fit can =
-    let banks = banks_of (after v (started state)) (started_is_bank Sha256 state can) in
+    let banks = given (λ a. bank_at_start v.banks a state) (after v (started state)) (started_fit v.banks state can) in
     record {
       seed = fit.seed;
       boots = fit.boots;
       draws = fit.draws;
       counter = counter_small state can;
-      registers = λ a. (banks a).0;
-      width = λ a. (banks a).1;
+      registers = λ a. (banks.0 a).0;
+      width = λ a. (banks.0 a).1;
+      missing = banks.1;
+      kept_missing = tt;
       stopped = λ off. absurd cc;
       kept_fits = tt;
       kept_agrees = λ on. tt;
     }
 fit-after v (shut_down None) fit can =
-    let banks = banks_of (after v (shut_down None)) (fit.registers Sha256, fit.width Sha256) in
+    let banks = given (λ a. bank_of a v) (after v (shut_down None)) (own v fit) in
     record {
       seed = fit.seed;
       boots = fit.boots;
       draws = fit.draws;
       counter = fit.counter;
-      registers = λ a. (banks a).0;
-      width = λ a. (banks a).1;
+      registers = λ a. (banks.0 a).0;
+      width = λ a. (banks.0 a).1;
+      missing = banks.1;
+      kept_missing = tt;
       stopped = λ off. still_stopped v None (fit.stopped off);
       kept_fits = tt;
       kept_agrees = λ on. tt;
     }
 fit-after v (shut_down (Some state)) fit can =
-    let banks = banks_of (after v (shut_down (Some state))) (fit.registers Sha256, fit.width Sha256) in
+    let banks = given (λ a. bank_of a v) (after v (shut_down (Some state))) (own v fit) in
     record {
       seed = fit.seed;
       boots = fit.boots;
       draws = fit.draws;
       counter = fit.counter;
-      registers = λ a. (banks a).0;
-      width = λ a. (banks a).1;
+      registers = λ a. (banks.0 a).0;
+      width = λ a. (banks.0 a).1;
+      missing = banks.1;
+      kept_missing = subst (MissingAreBlankInState v.banks) (sym can) (kept_blank v fit);
       stopped = λ off. still_stopped v (Some state) (fit.stopped off);
       kept_fits = subst IsKept (sym can) (kept_is_kept v fit);
       kept_agrees = λ on. can;
     }
 fit-after v drew fit can =
-    let banks = banks_of (after v drew) (fit.registers Sha256, fit.width Sha256) in
+    let banks = given (λ a. bank_of a v) (after v drew) (own v fit) in
     record {
       seed = fit.seed;
       boots = fit.boots;
       draws = omega arith;
       counter = fit.counter;
-      registers = λ a. (banks a).0;
-      width = λ a. (banks a).1;
+      registers = λ a. (banks.0 a).0;
+      width = λ a. (banks.0 a).1;
+      missing = banks.1;
+      kept_missing = fit.kept_missing;
       stopped = λ off. absurd (true_off v.started can off);
       kept_fits = fit.kept_fits;
       kept_agrees = fit.kept_agrees;
     }
 fit-after v (extended i measurements) fit can =
-    let banks = banks_of (after v (extended i measurements)) (extended_is_bank Sha256 v.pcr i (digests_by Sha256 measurements) (fit.registers Sha256, fit.width Sha256) can.1) in
+    let banks = given (λ a. bank_after_extend v.banks a (bank_of a v) i measurements) (after v (extended i measurements)) (extended_fit v i measurements fit can.1) in
     record {
       seed = fit.seed;
       boots = fit.boots;
       draws = fit.draws;
       counter = omega arith;
-      registers = λ a. (banks a).0;
-      width = λ a. (banks a).1;
+      registers = λ a. (banks.0 a).0;
+      width = λ a. (banks.0 a).1;
+      missing = banks.1;
+      kept_missing = tt;
       stopped = λ off. absurd (true_off v.started can.0 off);
       kept_fits = tt;
       kept_agrees = λ on. tt;

@@ -5,6 +5,7 @@ use Rattle.std.specs.Prelude.{IfOk, IfSome}
 use Rattle.std.specs.Int.{w16, w32}
 use Rattle.tpm_frame.specs.declared.Head.{Head}
 use Rattle.tpm_frame.specs.Numbers.{cc_startup, cc_shutdown, cc_get_random, cc_pcr_read, cc_pcr_extend}
+use Rattle.tpm_core.specs.declared.algorithm.Banks.{Banks}
 use Rattle.tpm_core.specs.declared.refusal.Refusal.{Refusal}
 use Rattle.tpm_core.specs.declared.refusal.Refusal.TheVariants as refusals
 use Rattle.tpm_core.specs.declared.command.Command.{Command}
@@ -38,13 +39,13 @@ unfolding handle_at
 handle_small bytes = then_ok _ (take_number w32 refusals.HandleCut bytes) _ (λ n.
     if_ok _ (ltb n.0 24) _ _ (λ lt. ltb-true n.0 24 lt) (λ ge. if_ok _ (eqb n.0 1073741831) _ _ (λ e. tt) (λ e. tt)))
 
-extend_small : (bytes : List ℕ) → IfOk (pcr_extend_at bytes) (λ x. IsInReach true x.0)
+extend_small : (banks : Banks) (bytes : List ℕ) → IfOk (pcr_extend_at banks bytes) (λ x. IsInReach true x.0)
 unfolding pcr_extend_at
-extend_small bytes =
+extend_small banks bytes =
     bind_ok (λ x. IfSome x.0 (λ i. i < 24)) _ (handle_at bytes) _ (handle_small bytes) (λ register small.
     then_ok _ (authorisation_at register.1) _ (λ authorisation.
     then_ok _ (count_at authorisation.1) _ (λ count.
-    then_ok _ (many_at digest_at count.0 count.1) _ (λ digests. (refl, small)))))
+    then_ok _ (many_at (digest_at banks) count.0 count.1) _ (λ digests. (refl, small)))))
 
 -- as many entries as were counted
 many_counted : {A : Type 0} (entry_at : List ℕ → Result (A × List ℕ) Refusal) (n : ℕ) (bytes : List ℕ) → IfOk (many_at entry_at n bytes) (λ x. length x.0 ≡ n)
@@ -57,11 +58,11 @@ many_counted entry_at (suc n) bytes =
 count_small : (bytes : List ℕ) → IfOk (count_at bytes) (λ x. x.0 ≤ 16)
 count_small bytes = then_ok _ (take_number w32 refusals.ParameterCut bytes) _ (λ count. if_ok _ (ltb 16 count.0) _ _ (λ e. tt) (λ e. ltb-false 16 count.0 e))
 
-read_reach : (on : Bool) (bytes : List ℕ) → IfOk (pcr_read_at bytes) (λ x. IsInReach on x.0)
+read_reach : (banks : Banks) (on : Bool) (bytes : List ℕ) → IfOk (pcr_read_at banks bytes) (λ x. IsInReach on x.0)
 unfolding pcr_read_at
-read_reach on bytes =
+read_reach banks on bytes =
     bind_ok (λ x. x.0 ≤ 16) _ (count_at bytes) _ (count_small bytes) (λ count small.
-    bind_ok (λ x. length x.0 ≡ count.0) _ (many_at selection_at count.0 count.1) _ (many_counted selection_at count.0 count.1) (λ selections h. omega (arith, h, small)))
+    bind_ok (λ x. length x.0 ≡ count.0) _ (many_at (selection_at banks) count.0 count.1) _ (many_counted (selection_at banks) count.0 count.1) (λ selections h. omega (arith, h, small)))
 
 startup_reach : (on has_saved : Bool) (bytes : List ℕ) → IfOk (startup_at has_saved bytes) (λ x. IsInReach on x.0)
 unfolding startup_at
@@ -92,16 +93,16 @@ admitted_on on head =
     (λ e. if_ok _ head.sessions _ _ (λ e. known) (λ e. tt))
     (λ e. if_ok _ head.sessions _ _ (λ e. tt) (λ e. known)))
 
-parameters_reach : (on has_saved : Bool) (head : Head) (bytes : List ℕ) → IsOnFor on head → IfOk (parameters_at has_saved head.code bytes) (λ x. IsInReach on x.0)
+parameters_reach : (banks : Banks) (on has_saved : Bool) (head : Head) (bytes : List ℕ) → IsOnFor on head → IfOk (parameters_at banks has_saved head.code bytes) (λ x. IsInReach on x.0)
 unfolding parameters_at
-parameters_reach on has_saved head bytes known =
+parameters_reach banks on has_saved head bytes known =
     if_ok _ (eqb head.code cc_startup) _ _ (λ e. startup_reach on has_saved bytes) (λ no.
-    let P : Bool → Type 0 = λ b. IfOk (cond (eqb head.code cc_shutdown) (shutdown_at bytes) (cond (eqb head.code cc_get_random) (get_random_at bytes) (cond (eqb head.code cc_pcr_read) (pcr_read_at bytes) (cond (eqb head.code cc_pcr_extend) (pcr_extend_at bytes) (Err refusals.CommandCode))))) (λ x. IsInReach b x.0) in
+    let P : Bool → Type 0 = λ b. IfOk (cond (eqb head.code cc_shutdown) (shutdown_at bytes) (cond (eqb head.code cc_get_random) (get_random_at bytes) (cond (eqb head.code cc_pcr_read) (pcr_read_at banks bytes) (cond (eqb head.code cc_pcr_extend) (pcr_extend_at banks bytes) (Err refusals.CommandCode))))) (λ x. IsInReach b x.0) in
     subst P (sym (known no))
     (if_ok _ (eqb head.code cc_shutdown) _ _ (λ e. shutdown_reach true bytes) (λ e.
     if_ok _ (eqb head.code cc_get_random) _ _ (λ e. random_reach bytes) (λ e.
-    if_ok _ (eqb head.code cc_pcr_read) _ _ (λ e. read_reach true bytes) (λ e.
-    if_ok _ (eqb head.code cc_pcr_extend) _ _ (λ e. extend_small bytes) (λ e. tt))))))
+    if_ok _ (eqb head.code cc_pcr_read) _ _ (λ e. read_reach banks true bytes) (λ e.
+    if_ok _ (eqb head.code cc_pcr_extend) _ _ (λ e. extend_small banks bytes) (λ e. tt))))))
 
 locality_reach : (on : Bool) (command : Command) → IsInReach on command → IfOk (check_locality command) (IsInReach on)
 locality_reach on (PcrExtend extension) h = if_ok _ (is_closed extension.0) _ _ (λ e. tt) (λ e. h)
@@ -110,10 +111,10 @@ locality_reach on (Shutdown mode) h = h
 locality_reach on (GetRandom asked) h = h
 locality_reach on (PcrRead selections) h = h
 
-pub command_reach : (on has_saved : Bool) (bytes : List ℕ) → IfOk (command_at on has_saved bytes) (IsInReach on)
+pub command_reach : (banks : Banks) (on has_saved : Bool) (bytes : List ℕ) → IfOk (command_at banks on has_saved bytes) (IsInReach on)
 unfolding command_at
-command_reach on has_saved bytes =
+command_reach banks on has_saved bytes =
     then_ok _ (head_at bytes) _ (λ seen.
     bind_ok (IsOnFor on) _ (check_started_and_sessions on seen) _ (admitted_on on seen) (λ head known.
-    bind_ok (λ x. IsInReach on x.0) _ (parameters_at has_saved head.code (drop 10 bytes)) _ (parameters_reach on has_saved head (drop 10 bytes) known) (λ read h.
+    bind_ok (λ x. IsInReach on x.0) _ (parameters_at banks has_saved head.code (drop 10 bytes)) _ (parameters_reach banks on has_saved head (drop 10 bytes) known) (λ read h.
     if_ok _ (eqb (length read.1) 0) _ _ (λ e. locality_reach on read.0 h) (λ e. tt))))

@@ -37,7 +37,7 @@ can_do_read v (Ok command) fit h = can_do v command fit h
 can_do_read v (Err refusal) fit h = tt
 
 pub can_do_bytes : (v : TpmParts) (bytes : List ℕ) → IsValid v → CanDoIfAny v (change_if_read v (read_by v bytes))
-can_do_bytes v bytes fit = can_do_read v (read_by v bytes) fit (command_reach v.started (is_some v.saved) bytes)
+can_do_bytes v bytes fit = can_do_read v (read_by v bytes) fit (command_reach v.banks v.started (is_some v.saved) bytes)
 
 -- ---- one entry more
 

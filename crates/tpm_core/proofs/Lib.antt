@@ -2,6 +2,7 @@ pub mod Measured
 pub mod Loops
 pub mod Looking
 pub mod InReach
+pub mod Bounds
 pub mod Fit
 pub mod Law
 pub mod Run

@@ -8,24 +8,36 @@ use Rattle.std.proofs.lemmas.List.FromFn.{get_or-map-range_with_len, length-map-
 use Rattle.tpm_core.specs.declared.parts.SavedParts.{SavedParts}
 use Rattle.tpm_core.specs.declared.parts.TpmParts.{TpmParts}
 use Rattle.tpm_core.specs.declared.algorithm.Algorithm.{Algorithm}
-use Rattle.tpm_core.specs.declared.algorithm.Algorithm.TheVariants.{Sha256}
+use Rattle.tpm_core.specs.declared.algorithm.Algorithm.TheVariants.{Sha256, Sha384}
+use Rattle.tpm_core.specs.declared.algorithm.Banks.{Banks}
 use Rattle.tpm_core.specs.declared.algorithm.Measurement.{Measurement}
-use Rattle.tpm_core.specs.Algorithms.{digests_by}
-use Rattle.tpm_core.specs.Banks.{blank_bank, each_register, hashed}
+use Rattle.tpm_core.specs.Algorithms.{digest_size, has_bank, digests_by}
+use Rattle.tpm_core.specs.Banks.{zeros, blank_bank, each_register, hashed, bank_extended, bank_of, with_banks}
 use Rattle.tpm_core.proofs.Measured.{hashed-append}
-use Rattle.tpm_core.specs.Past.{StateChange, booted, started, shut_down, drew, extended, is_boot, is_draw, since_boot, has_booted, count_of, boots_of, is_started, draws_of, saved_state, starting_value, starting_counter, digests_since, count_since, counter_at_start, register_value, counter_of, values}
-use Rattle.tpm_core.specs.Steps.{IsKept, after}
+use Rattle.tpm_core.specs.Past.{StateChange, booted, started, shut_down, drew, extended, is_boot, is_draw, since_boot, has_booted, count_of, boots_of, is_started, draws_of, saved_state, starting_value, starting_counter, digests_since, count_since, value_at_start, counter_at_start, register_value, counter_of, values}
+use Rattle.tpm_core.specs.Steps.{IsKept, bank_at_start, bank_after_extend, after}
 
 -- values that agree in each field
-pub same_parts : (v w : TpmParts) → v.seed ≡ w.seed → v.boots ≡ w.boots → v.draws ≡ w.draws → v.started ≡ w.started → v.pcr ≡ w.pcr → v.counter ≡ w.counter → v.saved ≡ w.saved → v ≡ w
-same_parts v w a b c d e f g =
+pub same_parts : (v w : TpmParts) → v.seed ≡ w.seed → v.boots ≡ w.boots → v.draws ≡ w.draws → v.banks ≡ w.banks → v.started ≡ w.started → ((a : Algorithm) → bank_of a v ≡ bank_of a w) → v.counter ≡ w.counter → v.saved ≡ w.saved → v ≡ w
+same_parts v w a b c k d e f g =
     ap (λ (x : List ℕ). record v { seed = x }) a
     ∙ ap (λ (x : ℕ). record v { seed = w.seed; boots = x }) b
     ∙ ap (λ (x : ℕ). record v { seed = w.seed; boots = w.boots; draws = x }) c
-    ∙ ap (λ (x : Bool). record w { started = x; pcr = v.pcr; counter = v.counter; saved = v.saved }) d
-    ∙ ap (λ (x : List (List ℕ)). record w { pcr = x; counter = v.counter; saved = v.saved }) e
+    ∙ ap (λ (x : Banks). record v { seed = w.seed; boots = w.boots; draws = w.draws; banks = x }) k
+    ∙ ap (λ (x : Bool). record w { started = x; pcr = v.pcr; pcr384 = v.pcr384; counter = v.counter; saved = v.saved }) d
+    ∙ ap (λ (x : List (List ℕ)). record w { pcr = x; pcr384 = v.pcr384; counter = v.counter; saved = v.saved }) (e Sha256)
+    ∙ ap (λ (x : List (List ℕ)). record w { pcr384 = x; counter = v.counter; saved = v.saved }) (e Sha384)
     ∙ ap (λ (x : ℕ). record w { counter = x; saved = v.saved }) f
     ∙ ap (λ (x : Option SavedParts). record w { saved = x }) g
+
+-- a bank of values that were given these banks
+pub bank_in : (a : Algorithm) (bank : Algorithm → List (List ℕ)) (v : TpmParts) → bank_of a (with_banks bank v) ≡ bank a
+bank_in Sha256 bank v = refl
+bank_in Sha384 bank v = refl
+
+-- values that were given banks agree in each bank where the banks do
+same_banks : (bank bank' : Algorithm → List (List ℕ)) (v w : TpmParts) → ((a : Algorithm) → bank a ≡ bank' a) → (a : Algorithm) → bank_of a (with_banks bank v) ≡ bank_of a (with_banks bank' w)
+same_banks bank bank' v w h a = bank_in a bank v ∙ h a ∙ sym (bank_in a bank' w)
 
 -- one more, where the rest is taken modulo m
 one_more : (a n m : ℕ) → (a + suc n) % m ≡ ((a + n) % m + 1) % m
@@ -74,9 +86,19 @@ unfolding digests_since
 digests_elsewhere past a i k measurements ne = let no : eqb k i ≡ false = ne_eqb k i ne in rw no (append-nil (digests_since past a k))
 
 -- extends leave the start as it is
-value_when_on : (b : TpmParts) (past : List StateChange) (a : Algorithm) (i : ℕ) → is_started b past ≡ true → register_value b past a i ≡ hashed a (starting_value b past a i) (digests_since past a i)
+value_when_on : (b : TpmParts) (past : List StateChange) (a : Algorithm) (i : ℕ) → is_started b past ≡ true → has_bank b.banks a ≡ true → register_value b past a i ≡ hashed a (starting_value b past a i) (digests_since past a i)
 unfolding register_value
-value_when_on b past a i on = rw on refl
+value_when_on b past a i on has = rw (on, has) refl
+
+-- a bank that isn't there stays blank
+value_missing : (b : TpmParts) (past : List StateChange) (a : Algorithm) (i : ℕ) (on : Bool) → is_started b past ≡ on → has_bank b.banks a ≡ false → register_value b past a i ≡ zeros (digest_size a)
+unfolding register_value
+value_missing b past a i true e none = rw (e, none) refl
+value_missing b past a i false e none = rw e refl
+
+pub bank_missing : (b : TpmParts) (past : List StateChange) (a : Algorithm) → has_bank b.banks a ≡ false → each_register (register_value b past a) ≡ blank_bank a
+unfolding each_register blank_bank
+bank_missing b past a none = same_bank (register_value b past a) (λ i. zeros (digest_size a)) (λ i. value_missing b past a i (is_started b past) refl none)
 
 counter_when_on : (b : TpmParts) (past : List StateChange) → is_started b past ≡ true → counter_of b past ≡ (starting_counter b past + count_since past) % 2 ^ 32
 unfolding counter_of
@@ -86,24 +108,49 @@ started-extended : (b : TpmParts) (past : List StateChange) (i : ℕ) (measureme
 unfolding is_started
 started-extended b past i measurements = refl
 
-value_here : (b : TpmParts) (past : List StateChange) (a : Algorithm) (i : ℕ) (measurements : List Measurement) → is_started b past ≡ true → register_value b (extended i measurements ∷ past) a i ≡ hashed a (register_value b past a i) (digests_by a measurements)
+value_here : (b : TpmParts) (past : List StateChange) (a : Algorithm) (i : ℕ) (measurements : List Measurement) → is_started b past ≡ true → has_bank b.banks a ≡ true → register_value b (extended i measurements ∷ past) a i ≡ hashed a (register_value b past a i) (digests_by a measurements)
 unfolding starting_value
-value_here b past a i measurements on =
-    rw (value_when_on b (extended i measurements ∷ past) a i (started-extended b past i measurements ∙ on), digests_here past a i measurements, value_when_on b past a i on)
+value_here b past a i measurements on has =
+    rw (value_when_on b (extended i measurements ∷ past) a i (started-extended b past i measurements ∙ on) has, digests_here past a i measurements, value_when_on b past a i on has)
     (hashed-append a (starting_value b past a i) (digests_since past a i) (digests_by a measurements))
 
-value_elsewhere : (b : TpmParts) (past : List StateChange) (a : Algorithm) (i k : ℕ) (measurements : List Measurement) → is_started b past ≡ true → k ≢ i → register_value b (extended i measurements ∷ past) a k ≡ register_value b past a k
+value_elsewhere : (b : TpmParts) (past : List StateChange) (a : Algorithm) (i k : ℕ) (measurements : List Measurement) → is_started b past ≡ true → has_bank b.banks a ≡ true → k ≢ i → register_value b (extended i measurements ∷ past) a k ≡ register_value b past a k
 unfolding starting_value
-value_elsewhere b past a i k measurements on ne =
-    rw (value_when_on b (extended i measurements ∷ past) a k (started-extended b past i measurements ∙ on), digests_elsewhere past a i k measurements ne, value_when_on b past a k on) refl
+value_elsewhere b past a i k measurements on has ne =
+    rw (value_when_on b (extended i measurements ∷ past) a k (started-extended b past i measurements ∙ on) has, digests_elsewhere past a i k measurements ne, value_when_on b past a k on has) refl
 
 -- a bank is set at one place
-bank_here : (b : TpmParts) (past : List StateChange) (a : Algorithm) (i : ℕ) (measurements : List Measurement) → is_started b past ≡ true → i < 24
+bank_here : (b : TpmParts) (past : List StateChange) (a : Algorithm) (i : ℕ) (measurements : List Measurement) → is_started b past ≡ true → has_bank b.banks a ≡ true → i < 24
     → each_register (register_value b (extended i measurements ∷ past) a) ≡ set (each_register (register_value b past a)) i (hashed a (get_or (each_register (register_value b past a)) i []) (digests_by a measurements))
-bank_here b past a i measurements on lt =
+bank_here b past a i measurements on has lt =
     let here : register_value b (extended i measurements ∷ past) a i ≡ hashed a (get_or (each_register (register_value b past a)) i []) (digests_by a measurements)
-    = rw (get_register (register_value b past a) i lt) (value_here b past a i measurements on) in
-    set_register (register_value b past a) (register_value b (extended i measurements ∷ past) a) i _ lt here (λ k ne. value_elsewhere b past a i k measurements on ne)
+    = rw (get_register (register_value b past a) i lt) (value_here b past a i measurements on has) in
+    set_register (register_value b past a) (register_value b (extended i measurements ∷ past) a) i _ lt here (λ k ne. value_elsewhere b past a i k measurements on has ne)
+
+pub if_true : {A : Type 0} (b : Bool) (x y : A) → b ≡ true → cond b x y ≡ x
+if_true true x y e = refl
+if_true false x y e = absurd cc
+
+pub if_false : {A : Type 0} (b : Bool) (x y : A) → b ≡ false → cond b x y ≡ y
+if_false true x y e = absurd cc
+if_false false x y e = refl
+
+-- a bank after a start, and after an extend
+bank_starts : (b : TpmParts) (past : List StateChange) (a : Algorithm) (state : Option SavedParts) (has : Bool) → has_bank b.banks a ≡ has → each_register (register_value b (started state ∷ past) a) ≡ bank_at_start b.banks a state
+unfolding is_started starting_value digests_since
+bank_starts b past a state true e =
+    same_bank (register_value b (started state ∷ past) a) (value_at_start a state) (λ i. value_when_on b (started state ∷ past) a i refl e)
+    ∙ sym (if_true (has_bank b.banks a) (each_register (value_at_start a state)) (blank_bank a) e)
+bank_starts b past a state false e = bank_missing b (started state ∷ past) a e ∙ sym (if_false (has_bank b.banks a) (each_register (value_at_start a state)) (blank_bank a) e)
+
+bank_extends : (b : TpmParts) (past : List StateChange) (a : Algorithm) (i : ℕ) (measurements : List Measurement) (has : Bool) → has_bank b.banks a ≡ has → is_started b past ≡ true → i < 24
+    → each_register (register_value b (extended i measurements ∷ past) a) ≡ bank_after_extend b.banks a (each_register (register_value b past a)) i measurements
+bank_extends b past a i measurements true e on lt =
+    let bank = each_register (register_value b past a) in
+    bank_here b past a i measurements on e lt ∙ sym (if_true (has_bank b.banks a) (bank_extended a bank i measurements) bank e)
+bank_extends b past a i measurements false e on lt =
+    let bank = each_register (register_value b past a) in
+    bank_missing b (extended i measurements ∷ past) a e ∙ sym (bank_missing b past a e) ∙ sym (if_false (has_bank b.banks a) (bank_extended a bank i measurements) bank e)
 
 counter_here : (b : TpmParts) (past : List StateChange) (i : ℕ) (measurements : List Measurement) → is_started b past ≡ true → counter_of b (extended i measurements ∷ past) ≡ (counter_of b past + length measurements) % 2 ^ 32
 unfolding starting_counter count_since
@@ -119,11 +166,14 @@ draws_here b past = ap (λ (x : ℕ). x % 2 ^ 64) (omega arith) ∙ sym (mod-add
 
 pub values-booted : (b : TpmParts) (past : List StateChange) → values b (booted ∷ past) ≡ after (values b past) booted
 unfolding values boots_of draws_of is_started register_value counter_of saved_state each_register blank_bank
-values-booted b past = same_parts _ _ refl (one_more b.boots (count_of is_boot past) (2 ^ 64)) refl refl refl refl refl
+values-booted b past = same_parts _ _ refl (one_more b.boots (count_of is_boot past) (2 ^ 64)) refl refl refl (same_banks (λ a. each_register (register_value b (booted ∷ past) a)) blank_bank (values b (booted ∷ past)) (after (values b past) booted) (λ a. refl)) refl refl
 
 pub values-started : (b : TpmParts) (past : List StateChange) (state : Option SavedParts) → IfSome state IsKept → values b (started state ∷ past) ≡ after (values b past) (started state)
 unfolding values boots_of draws_of is_started register_value counter_of saved_state starting_value starting_counter digests_since count_since
-values-started b past state fits = same_parts _ _ refl refl refl refl refl (counter_fits state fits) refl
+values-started b past state fits =
+    same_parts _ _ refl refl refl refl refl
+    (same_banks (λ a. each_register (register_value b (started state ∷ past) a)) (λ a. bank_at_start b.banks a state) (values b (started state ∷ past)) (after (values b past) (started state)) (λ a. bank_starts b past a state (has_bank b.banks a) refl))
+    (counter_fits state fits) refl
 
 pub values-shut_down : (b : TpmParts) (past : List StateChange) (state : Option SavedParts) → values b (shut_down state ∷ past) ≡ after (values b past) (shut_down state)
 unfolding values boots_of draws_of is_started register_value counter_of saved_state starting_value starting_counter digests_since count_since
@@ -131,9 +181,11 @@ values-shut_down b past state = refl
 
 pub values-drew : (b : TpmParts) (past : List StateChange) → values b (drew ∷ past) ≡ after (values b past) drew
 unfolding values boots_of is_started register_value counter_of saved_state starting_value starting_counter digests_since count_since
-values-drew b past = same_parts _ _ refl refl (draws_here b past) refl refl refl refl
+values-drew b past = same_parts _ _ refl refl (draws_here b past) refl refl (same_banks (λ a. each_register (register_value b (drew ∷ past) a)) (λ a. each_register (register_value b past a)) (values b (drew ∷ past)) (after (values b past) drew) (λ a. refl)) refl refl
 
 pub values-extended : (b : TpmParts) (past : List StateChange) (i : ℕ) (measurements : List Measurement) → (values b past).started ≡ true → i < 24 → values b (extended i measurements ∷ past) ≡ after (values b past) (extended i measurements)
 unfolding values boots_of draws_of is_started saved_state
 values-extended b past i measurements on lt =
-    same_parts _ _ refl refl refl refl (bank_here b past Sha256 i measurements on lt) (counter_here b past i measurements on) refl
+    same_parts _ _ refl refl refl refl refl
+    (same_banks (λ a. each_register (register_value b (extended i measurements ∷ past) a)) (λ a. bank_after_extend b.banks a (each_register (register_value b past a)) i measurements) (values b (extended i measurements ∷ past)) (after (values b past) (extended i measurements)) (λ a. bank_extends b past a i measurements (has_bank b.banks a) refl on lt))
+    (counter_here b past i measurements on) refl

@@ -1,18 +1,16 @@
 -- The digests of one algorithm among measurements.
-use Rattle.std.proofs.Common.{◌≡◌, ℕ, ◌+◌, ◌<◌, List, [], ◌∷◌, ◌++◌, length, get_or, take, refl, ap}
-use Rattle.std.proofs.lemmas.List.{take_more}
+use Rattle.std.proofs.Common.{◌≡◌, ℕ, ◌+◌, ◌<◌, List, [], ◌∷◌, ◌++◌, length, get_or, take, map, filter, ap, ◌∙◌}
+use Rattle.std.proofs.lemmas.List.{take_more, map-append}
+use Rattle.std.proofs.lemmas.List.Elements.{filter-append}
 use Rattle.std.proofs.lemmas.List.Sums.{fold-append}
 use Rattle.tpm_core.specs.declared.algorithm.Algorithm.{Algorithm}
-use Rattle.tpm_core.specs.declared.algorithm.Algorithm.TheVariants.{Sha256}
 use Rattle.tpm_core.specs.declared.algorithm.Measurement.{Measurement}
-use Rattle.tpm_core.specs.declared.algorithm.Measurement.TheVariants.{Sha256 as by_sha256}
-use Rattle.tpm_core.specs.Algorithms.{digest_of, digests_by}
+use Rattle.tpm_core.specs.Algorithms.{digest_of, digest_in, is_by, digests_by}
 use Rattle.tpm_core.specs.Banks.{hashed}
 
 pub digests_by-append : (a : Algorithm) (xs ys : List Measurement) → digests_by a (xs ++ ys) ≡ digests_by a xs ++ digests_by a ys
 unfolding digests_by
-digests_by-append a [] ys = refl
-digests_by-append Sha256 (by_sha256 digest ∷ xs) ys = ap (λ (digests : List (List ℕ)). digest ∷ digests) (digests_by-append Sha256 xs ys)
+digests_by-append a xs ys = ap (map digest_in) (filter-append (is_by a) xs ys) ∙ map-append digest_in (filter (is_by a) xs) (filter (is_by a) ys)
 
 pub hashed-append : (a : Algorithm) (old : List ℕ) (xs ys : List (List ℕ)) → hashed a old (xs ++ ys) ≡ hashed a (hashed a old xs) ys
 hashed-append a old xs ys = fold-append (λ value digest. digest_of a (value ++ digest)) old xs ys

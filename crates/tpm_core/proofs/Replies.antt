@@ -21,7 +21,7 @@ use Rattle.std.specs.List.{flat_map}
 use Rattle.std.proofs.lemmas.List.Concat.{flat_map-cons}
 use Rattle.std.proofs.lemmas.Bool.{cases_lt}
 use Rattle.tpm_core.specs.declared.algorithm.Algorithm.{Algorithm}
-use Rattle.tpm_core.specs.declared.algorithm.Algorithm.TheVariants.{Sha256}
+use Rattle.tpm_core.specs.declared.algorithm.Algorithm.TheVariants.{Sha256, Sha384}
 use Rattle.tpm_core.specs.declared.command.Selection.{Selection}
 use Rattle.tpm_core.specs.declared.selected.Register.{Register}
 use Rattle.tpm_core.specs.Algorithms.{digest_size}
@@ -79,6 +79,7 @@ length-all_registers room (s ∷ others) =
 -- no digest is longer than this
 size_small : (a : Algorithm) → digest_size a ≤ 64
 size_small Sha256 = omega arith
+size_small Sha384 = omega arith
 
 -- a register has as many bytes as a digest, or none past the last
 register_small : (v : TpmParts) → IsValid v → (a : Algorithm) (i : ℕ) → length (get_or (bank_of a v) i []) ≤ 64
@@ -180,4 +181,4 @@ pub answer_is_response : (b : TpmParts) (past : List Entry) (bytes : List ℕ) �
 unfolding answer
 answer_is_response b past bytes fit =
     let v = values_after b past in
-    reply_is_response v (read_by v bytes) (fit-past b past fit) (command_reach v.started (is_some v.saved) bytes)
+    reply_is_response v (read_by v bytes) (fit-past b past fit) (command_reach v.banks v.started (is_some v.saved) bytes)

@@ -2,6 +2,7 @@
 use Rattle.std.proofs.Common.{◌≡◌, Bool, List, [], ◌∷◌, Result, Ok, sym, ap, subst, ◌∙◌, is_some}
 use Rattle.std.specs.Prelude.{IfOk}
 use Rattle.std.proofs.Common.{ℕ}
+use Rattle.tpm_core.specs.declared.algorithm.Banks.{Banks}
 use Rattle.tpm_core.specs.declared.parts.TpmParts.{TpmParts}
 use Rattle.tpm_core.specs.declared.refusal.Refusal.{Refusal}
 use Rattle.tpm_core.specs.declared.command.Command.{Command}
@@ -12,11 +13,11 @@ use Rattle.tpm_core.proofs.InReach.{command_reach}
 use Rattle.tpm_core.proofs.Law.{fit-past, no_past, values_after-command}
 
 -- what was read is what the values and the bytes give
-pub read_is : (v : TpmParts) (bytes : List ℕ) (has_saved : Bool) (read : Result Command Refusal) → has_saved ≡ is_some v.saved → read ≡ command_at v.started has_saved bytes → read ≡ read_by v bytes
-read_is v bytes has_saved read saved e = e ∙ ap (λ (b : Bool). command_at v.started b bytes) saved
+pub read_is : (v : TpmParts) (bytes : List ℕ) (has_saved : Bool) (read : Result Command Refusal) → has_saved ≡ is_some v.saved → read ≡ command_at v.banks v.started has_saved bytes → read ≡ read_by v bytes
+read_is v bytes has_saved read saved e = e ∙ ap (λ (b : Bool). command_at v.banks v.started b bytes) saved
 
-pub in_reach : (on has_saved : Bool) (bytes : List ℕ) (command : Command) → Ok command ≡ command_at on has_saved bytes → IsInReach on command
-in_reach on has_saved bytes command e = let P : Result Command Refusal → Type 0 = λ r. IfOk r (IsInReach on) in subst P (sym e) (command_reach on has_saved bytes)
+pub in_reach : (banks : Banks) (on has_saved : Bool) (bytes : List ℕ) (command : Command) → Ok command ≡ command_at banks on has_saved bytes → IsInReach on command
+in_reach banks on has_saved bytes command e = let P : Result Command Refusal → Type 0 = λ r. IfOk r (IsInReach on) in subst P (sym e) (command_reach banks on has_saved bytes)
 
 pub executed_is : (v w : TpmParts) (bytes : List ℕ) (read : Result Command Refusal) → IsValid v → read ≡ read_by v bytes → w ≡ after_change v (change_if_read v read) → w ≡ values_after v (Executed bytes ∷ [])
 executed_is v w bytes read fit e h = h ∙ ap (λ (r : Result Command Refusal). after_change v (change_if_read v r)) e ∙ sym (values_after-command v bytes fit)

@@ -2,7 +2,6 @@
 use Rattle.std.specs.Prelude.{ℕ, ◌+◌, ◌%◌, ◌^◌, false, List, [], ◌∷◌, ◌++◌, length, take, Option, Some, None, is_some, Result, Ok, Err, ◌==◌, min, if◌then◌else◌, codes, slice_index_or}
 use Rattle.std.specs.List.{flat_map}
 use Rattle.tpm_core.specs.declared.algorithm.Algorithm.{Algorithm}
-use Rattle.tpm_core.specs.declared.algorithm.Algorithm.TheVariants.{Sha256}
 use Rattle.tpm_core.specs.declared.algorithm.Measurement.{Measurement}
 use Rattle.tpm_core.specs.declared.command.Selection.{Selection}
 use Rattle.tpm_core.specs.declared.selected.Register.{Register}
@@ -19,18 +18,18 @@ use Rattle.tpm_core.specs.declared.command.Mode.{Mode}
 use Rattle.tpm_core.specs.declared.command.Mode.TheVariants.{Clear, State}
 use Rattle.tpm_core.specs.declared.command.Command.{Command}
 use Rattle.tpm_core.specs.declared.command.Command.TheVariants.{Startup, Shutdown, GetRandom, PcrRead, PcrExtend}
-use Rattle.tpm_core.specs.Banks.{blank_bank, bank_of}
+use Rattle.tpm_core.specs.Banks.{blank_bank, bank_of, with_banks, state_of}
 use Rattle.tpm_core.specs.Refusals.{code_of}
 use Rattle.tpm_core.specs.Reading.{command_at}
 use Rattle.tpm_core.specs.Past.{StateChange, booted, started, shut_down, drew, extended, values}
 
 -- the values when power has come on: only the seed and the saved state stay
 abbrev pub powered_on : TpmParts → TpmParts
-powered_on v = record v { boots = (v.boots + 1) % 2 ^ 64; draws = 0; started = false; pcr = blank_bank Sha256; counter = 0 }
+powered_on v = with_banks blank_bank (record v { boots = (v.boots + 1) % 2 ^ 64; draws = 0; started = false; counter = 0 })
 
--- what a shutdown keeps
+-- what a shutdown keeps of each bank
 abbrev pub kept : TpmParts → SavedParts
-kept v = record { counter = v.counter; pcr = take 16 v.pcr }
+kept v = state_of v.counter (λ a. take 16 (bank_of a v))
 
 -- an extend by no digest does nothing
 abbrev pub extend_change : ℕ → List Measurement → Option StateChange
@@ -72,7 +71,7 @@ entry_read chosen = to_be_bytes w16 (identifier_of chosen.0) ++ 3 ∷ bits_of ch
 abbrev pub digest_read : TpmParts → Register → List ℕ
 digest_read v register = to_be_bytes w16 (digest_size register.algorithm) ++ slice_index_or (bank_of register.algorithm v) register.index []
 
--- what a read of registers answers: at most eight are read
+-- what a read of registers answers: at most eight are read, of all banks together
 unfoldable pub registers_read : TpmParts → List Selection → List ℕ
 registers_read v selections =
     let chosen = chosen_of 8 selections in
@@ -94,7 +93,7 @@ response v (PcrExtend extension) = with_header st_sessions password_session
 
 -- the command that the bytes are to a TPM with the values v
 abbrev pub read_by : TpmParts → List ℕ → Result Command Refusal
-read_by v bytes = command_at v.started (is_some v.saved) bytes
+read_by v bytes = command_at v.banks v.started (is_some v.saved) bytes
 
 -- the response to what was read
 abbrev pub reply_to : TpmParts → Result Command Refusal → List ℕ

@@ -6,6 +6,10 @@ use Rattle.std.specs.Prelude.{ℕ}
 abbrev pub alg_sha256 : ℕ
 alg_sha256 = 0x000B
 
+-- TPM_ALG_SHA384 (6.3, TPM_ALG_ID)
+abbrev pub alg_sha384 : ℕ
+alg_sha384 = 0x000C
+
 -- TPM_SU_CLEAR: values begin anew (6.10, TPM_SU)
 abbrev pub su_clear : ℕ
 su_clear = 0

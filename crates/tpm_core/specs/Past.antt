@@ -2,12 +2,11 @@
 use Rattle.std.specs.Prelude.{ℕ, ◌+◌, ◌%◌, ◌^◌, Bool, true, false, not, ◌&&◌, ◌||◌, List, [], ◌∷◌, ◌++◌, length, filter, Option, Some, None, ◌==◌, if◌then◌else◌, slice_index_or}
 use Rattle.std.specs.List.{list_any}
 use Rattle.tpm_core.specs.declared.algorithm.Algorithm.{Algorithm}
-use Rattle.tpm_core.specs.declared.algorithm.Algorithm.TheVariants.{Sha256}
 use Rattle.tpm_core.specs.declared.algorithm.Measurement.{Measurement}
 use Rattle.tpm_core.specs.declared.parts.SavedParts.{SavedParts}
 use Rattle.tpm_core.specs.declared.parts.TpmParts.{TpmParts}
-use Rattle.tpm_core.specs.Algorithms.{digest_size, digests_by}
-use Rattle.tpm_core.specs.Banks.{zeros, each_register, start_value, restored_value, hashed, bank_of, kept_bank_of}
+use Rattle.tpm_core.specs.Algorithms.{digest_size, has_bank, digests_by}
+use Rattle.tpm_core.specs.Banks.{zeros, each_register, start_value, restored_value, hashed, bank_of, kept_bank_of, with_banks}
 
 -- what a boot or a command that succeeded did
 pub data StateChange : Type 0 where
@@ -132,22 +131,20 @@ count_since (shut_down state ∷ past) = count_since past
 count_since (drew ∷ past) = count_since past
 count_since (extended j measurements ∷ past) = count_since past + length measurements
 
--- a register's value in the bank of an algorithm
+-- a register's value in the bank of an algorithm; in a bank that isn't there it is zeros
 unfoldable pub register_value : TpmParts → List StateChange → Algorithm → ℕ → List ℕ
-register_value b past a i = if is_started b past then hashed a (starting_value b past a i) (digests_since past a i) else zeros (digest_size a)
+register_value b past a i = if is_started b past && has_bank b.banks a then hashed a (starting_value b past a i) (digests_since past a i) else zeros (digest_size a)
 
--- how often registers were extended
+-- how many digests registers were extended by, those of each bank counted
 unfoldable pub counter_of : TpmParts → List StateChange → ℕ
 counter_of b past = if is_started b past then (starting_counter b past + count_since past) % 2 ^ 32 else 0
 
 -- the values after the state changes, of a TPM that had the values of b
 unfoldable pub values : TpmParts → List StateChange → TpmParts
-values b past = record {
-  seed = b.seed;
+values b past = with_banks (λ a. each_register (register_value b past a)) (record b {
   boots = boots_of b past;
   draws = draws_of b past;
   started = is_started b past;
-  pcr = each_register (register_value b past Sha256);
   counter = counter_of b past;
   saved = saved_state b past;
-}
+})

@@ -6,6 +6,7 @@ use Rattle.tpm_frame.specs.Numbers.{rc_bad_tag, rc_command_size, cc_startup, cc_
 use Rattle.tpm_frame.specs.Frame.{head_of}
 use Rattle.tpm_core.specs.Numbers.{su_clear, su_state, rh_null, rs_pw}
 use Rattle.tpm_core.specs.declared.algorithm.Algorithm.{Algorithm}
+use Rattle.tpm_core.specs.declared.algorithm.Banks.{Banks}
 use Rattle.tpm_core.specs.declared.algorithm.Measurement.{Measurement}
 use Rattle.tpm_core.specs.declared.refusal.Refusal.{Refusal}
 use Rattle.tpm_core.specs.declared.refusal.Refusal.TheVariants as refusals
@@ -111,26 +112,26 @@ known_algorithm None bytes = Err refusals.ParameterHash
 known_algorithm (Some a) bytes = Ok (a, bytes)
 
 -- an algorithm that the TPM has a bank of
-unfoldable pub algorithm_at : List ℕ → Result (Algorithm × List ℕ) Refusal
-algorithm_at bytes = do
+unfoldable pub algorithm_at : Banks → List ℕ → Result (Algorithm × List ℕ) Refusal
+algorithm_at banks bytes = do
   n ← take_number w16 refusals.ParameterCut bytes
-  known_algorithm (algorithm_of n.0) n.1
+  known_algorithm (algorithm_of banks n.0) n.1
 
 -- so many bytes of a parameter
 unfoldable pub array_at : ℕ → List ℕ → Result (List ℕ × List ℕ) Refusal
 array_at n bytes = if nat_lt (length bytes) n then Err refusals.ParameterCut else Ok (take n bytes, drop n bytes)
 
 -- an algorithm and one of its digests
-unfoldable pub digest_at : List ℕ → Result (Measurement × List ℕ) Refusal
-digest_at bytes = do
-  algorithm ← algorithm_at bytes
+unfoldable pub digest_at : Banks → List ℕ → Result (Measurement × List ℕ) Refusal
+digest_at banks bytes = do
+  algorithm ← algorithm_at banks bytes
   digest ← array_at (digest_size algorithm.0) algorithm.1
   Ok (measured algorithm.0 digest.0, digest.1)
 
 -- an algorithm and a map of the 24 registers of its bank
-unfoldable pub selection_at : List ℕ → Result (Selection × List ℕ) Refusal
-selection_at bytes = do
-  algorithm ← algorithm_at bytes
+unfoldable pub selection_at : Banks → List ℕ → Result (Selection × List ℕ) Refusal
+selection_at banks bytes = do
+  algorithm ← algorithm_at banks bytes
   size ← take_number w8 refusals.ParameterCut algorithm.1
   bits ← if size.0 == 3 then array_at 3 size.1 else Err refusals.ParameterValue
   Ok (record { algorithm = algorithm.0; bits = bits.0 }, bits.1)
@@ -150,29 +151,29 @@ count_at bytes = do
   if nat_lt 16 count.0 then Err refusals.ParameterSize else Ok count
 
 -- which registers are to be read
-unfoldable pub pcr_read_at : List ℕ → Result (Command × List ℕ) Refusal
-pcr_read_at bytes = do
+unfoldable pub pcr_read_at : Banks → List ℕ → Result (Command × List ℕ) Refusal
+pcr_read_at banks bytes = do
   count ← count_at bytes
-  selections ← many_at selection_at count.0 count.1
+  selections ← many_at (selection_at banks) count.0 count.1
   Ok (PcrRead selections.0, selections.1)
 
 -- which register is to be extended, by which digests
-unfoldable pub pcr_extend_at : List ℕ → Result (Command × List ℕ) Refusal
-pcr_extend_at bytes = do
+unfoldable pub pcr_extend_at : Banks → List ℕ → Result (Command × List ℕ) Refusal
+pcr_extend_at banks bytes = do
   register ← handle_at bytes
   authorisation ← authorisation_at register.1
   count ← count_at authorisation.1
-  digests ← many_at digest_at count.0 count.1
+  digests ← many_at (digest_at banks) count.0 count.1
   Ok (PcrExtend (register.0, digests.0), digests.1)
 
 -- what stands after the header, by the command's code
-unfoldable pub parameters_at : Bool → ℕ → List ℕ → Result (Command × List ℕ) Refusal
-parameters_at has_saved code bytes =
+unfoldable pub parameters_at : Banks → Bool → ℕ → List ℕ → Result (Command × List ℕ) Refusal
+parameters_at banks has_saved code bytes =
     if code == cc_startup then startup_at has_saved bytes
     else if code == cc_shutdown then shutdown_at bytes
     else if code == cc_get_random then get_random_at bytes
-    else if code == cc_pcr_read then pcr_read_at bytes
-    else if code == cc_pcr_extend then pcr_extend_at bytes
+    else if code == cc_pcr_read then pcr_read_at banks bytes
+    else if code == cc_pcr_extend then pcr_extend_at banks bytes
     else Err refusals.CommandCode
 
 -- the register is closed to the guest's locality
@@ -188,10 +189,10 @@ check_locality (Shutdown mode) = Ok (Shutdown mode)
 check_locality (GetRandom asked) = Ok (GetRandom asked)
 check_locality (PcrRead selections) = Ok (PcrRead selections)
 
--- the command that the bytes are, or the first check that fails
-unfoldable pub command_at : Bool → Bool → List ℕ → Result Command Refusal
-command_at started has_saved bytes = do
+-- the command that the bytes are to a TPM with these banks, or the first check that fails
+unfoldable pub command_at : Banks → Bool → Bool → List ℕ → Result Command Refusal
+command_at banks started has_saved bytes = do
   seen ← head_at bytes
   head ← check_started_and_sessions started seen
-  read ← parameters_at has_saved head.code (drop header_size bytes)
+  read ← parameters_at banks has_saved head.code (drop header_size bytes)
   if length read.1 == 0 then check_locality read.0 else Err refusals.ParameterSize

@@ -1,11 +1,11 @@
 //! A bank: the values of 24 registers, each as long as a digest.
 
-ghost use Rattle.std.specs.Prelude.{◌≡◌, take, ◌∷◌, []};
-ghost use Rattle.tpm_core.specs.declared.algorithm.Algorithm.TheVariants.{Sha256};
-ghost use Rattle.tpm_core.specs.Algorithms.{digests_by};
+ghost use Rattle.std.specs.Prelude.{◌≡◌, ◌<◌, take, ◌∷◌, []};
+ghost use Rattle.tpm_core.specs.Algorithms.{digest_size, digests_by};
 ghost use Rattle.tpm_core.specs.Banks.{is_dynamic, each_register, start_value, restored_value, hashed};
+ghost use Rattle.tpm_core.specs.Steps.{bank_after_extend};
 
-use crate::algorithm::{Measurement, SHA256_DIGEST_SIZE, sha256_of};
+use crate::algorithm::{Algorithm, Banks, Measurement, digest_of};
 use crate::parts::{FIRST_DYNAMIC_PCR, KEPT_PCR_COUNT, LAST_DYNAMIC_PCR, PCR_COUNT};
 
 /// Whether a register is one of those that only other localities than the guest's reset and extend.
@@ -64,29 +64,52 @@ pub fn kept_values<const N: usize>(bank: &[[u8; N]; PCR_COUNT]) -> [[u8; N]; KEP
     values
 }
 
-/// A register's value after those of these digests that are by SHA-256.
+/// A register's value after those of these digests that are of the algorithm.
 #[tactic(auto, unfolding(crate::specs::Algorithms::digests_by))]
-pub fn hashed_by_sha256(
-    old: [u8; SHA256_DIGEST_SIZE],
+fn hashed<const N: usize>(
+    algorithm: Algorithm,
+    old: &[u8; N],
     measurements: &[Measurement],
-) -> [u8; SHA256_DIGEST_SIZE]
-    ensures { result ≡ hashed Sha256 old (digests_by Sha256 measurements.now) }
+) -> [u8; N]
+    requires { N ≡ digest_size algorithm }
+    ensures { result ≡ hashed algorithm old.now (digests_by algorithm measurements.now) }
 {
-    let mut value = old;
+    let mut value = *old;
     for measurement in measurements {
-        value = next_by_sha256(&value, measurement);
+        value = next_value(algorithm, &value, measurement);
     }
     value
 }
 
 #[tactic(auto, unfolding(crate::specs::Algorithms::digests_by))]
-fn next_by_sha256(
-    old: &[u8; SHA256_DIGEST_SIZE],
+fn next_value<const N: usize>(
+    algorithm: Algorithm,
+    old: &[u8; N],
     measurement: &Measurement,
-) -> [u8; SHA256_DIGEST_SIZE]
-    ensures { result ≡ hashed Sha256 old.now (digests_by Sha256 (measurement.now ∷ [])) }
+) -> [u8; N]
+    requires { N ≡ digest_size algorithm }
+    ensures { result ≡ hashed algorithm old.now (digests_by algorithm (measurement.now ∷ [])) }
 {
-    match measurement {
-        Measurement::Sha256(digest) => sha256_of(old, digest),
+    if measurement.is_by(algorithm) {
+        digest_of(algorithm, old, measurement.digest())
+    } else {
+        *old
+    }
+}
+
+/// Extends a register of a bank by those of these digests that are of its algorithm, if the TPM has the bank.
+pub fn extend_bank<const N: usize>(
+    banks: Banks,
+    algorithm: Algorithm,
+    bank: &mut [[u8; N]; PCR_COUNT],
+    register: usize,
+    measurements: &[Measurement],
+)
+    requires size { N ≡ digest_size algorithm }
+    requires register { register < 24 }
+    ensures { bank.new ≡ bank_after_extend banks algorithm bank.old register measurements.now }
+{
+    if algorithm.is_in(banks) {
+        bank[register] = hashed(algorithm, &bank[register], measurements);
     }
 }

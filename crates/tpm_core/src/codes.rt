@@ -4,6 +4,9 @@
 /// TPM_ALG_SHA256.
 pub const ALG_SHA256: u16 = 0x000B;
 
+/// TPM_ALG_SHA384.
+pub const ALG_SHA384: u16 = 0x000C;
+
 /// TPM_SU_CLEAR: values begin anew.
 pub const SU_CLEAR: u16 = 0;
 

@@ -1,8 +1,8 @@
-//! A TPM of five commands (Startup, Shutdown, GetRandom, PCR_Read, PCR_Extend), with one bank of 24 registers by
-//! SHA-256.
+//! A TPM of five commands (Startup, Shutdown, GetRandom, PCR_Read, PCR_Extend), with a bank of 24 registers by SHA-256,
+//! and one by SHA-384 where it is made with two banks.
 //!
 //! ```text
-//! let mut tpm = Tpm::manufacture(seed);
+//! let mut tpm = Tpm::manufacture(seed, Banks::Two);
 //! tpm.power_on();
 //! let size = tpm.execute(&command, &mut into);
 //! let response = &into.bytes()[..size];
@@ -29,6 +29,6 @@ mod state_change;
 mod tpm;
 mod type_bounds;
 
-pub use algorithm::SHA256_DIGEST_SIZE;
+pub use algorithm::{Banks, SHA256_DIGEST_SIZE, SHA384_DIGEST_SIZE};
 pub use parts::{KEPT_PCR_COUNT, PCR_COUNT, SEED_SIZE, SavedParts, TpmParts};
 pub use tpm::Tpm;

@@ -1,6 +1,6 @@
 //! The values of a TPM.
 
-use crate::algorithm::SHA256_DIGEST_SIZE;
+use crate::algorithm::{Banks, SHA256_DIGEST_SIZE, SHA384_DIGEST_SIZE};
 use std::fmt;
 
 /// How many bytes a seed has.
@@ -21,10 +21,12 @@ pub const LAST_DYNAMIC_PCR: usize = 22;
 /// What a shutdown keeps for a start to bring back.
 #[derive(Clone, Copy, Debug, PartialEq, Eq)]
 pub struct SavedParts {
-    /// How often registers were extended, modulo 2^32.
+    /// How many digests registers were extended by, modulo 2^32.
     pub counter: u32,
     /// The first registers of the bank of SHA-256.
     pub pcr: [[u8; SHA256_DIGEST_SIZE]; KEPT_PCR_COUNT],
+    /// The first registers of the bank of SHA-384: zeros where there is no such bank.
+    pub pcr384: [[u8; SHA384_DIGEST_SIZE]; KEPT_PCR_COUNT],
 }
 
 /// The values of a TPM. Where it isn't started, the registers and the counter are zeros and `draws` is 0.
@@ -32,6 +34,8 @@ pub struct SavedParts {
 pub struct TpmParts {
     /// What its random bytes are made from.
     pub seed: [u8; SEED_SIZE],
+    /// Which banks it has.
+    pub banks: Banks,
     /// How often power came on, modulo 2^64.
     pub boots: u64,
     /// How often random bytes were drawn since power came on, modulo 2^64.
@@ -40,7 +44,9 @@ pub struct TpmParts {
     pub started: bool,
     /// The bank of SHA-256.
     pub pcr: [[u8; SHA256_DIGEST_SIZE]; PCR_COUNT],
-    /// How often registers were extended, modulo 2^32.
+    /// The bank of SHA-384: zeros where there is no such bank.
+    pub pcr384: [[u8; SHA384_DIGEST_SIZE]; PCR_COUNT],
+    /// How many digests registers were extended by, modulo 2^32.
     pub counter: u32,
     /// What the latest shutdown kept, where nothing has made it stale.
     pub saved: Option<SavedParts>,

@@ -6,7 +6,7 @@ ghost use Rattle.std.specs.Prelude.{◌≡◌, ◌≤◌, ◌<◌, length, drop,
 ghost use Rattle.std.specs.Int.{w8, w16, w32};
 ghost use Rattle.tpm_core.specs.Reading.{Reads, take_number, head_at, check_started_and_sessions, mode_at, startup_at, shutdown_at, get_random_at, handle_at, authorisation_at, algorithm_at, array_at, digest_at, selection_at, many_at, count_at, pcr_read_at, pcr_extend_at, parameters_at, check_locality, command_at};
 
-use crate::algorithm::{Algorithm, Measurement, SHA256_DIGEST_SIZE};
+use crate::algorithm::{Algorithm, Banks, Measurement, SHA256_DIGEST_SIZE};
 use crate::array_vec::ArrayVec;
 use crate::bank::is_dynamic;
 use crate::codes::{RH_NULL, RS_PW, SU_CLEAR, SU_STATE};
@@ -168,30 +168,31 @@ impl Reader<'_> {
     }
 
     #[tactic(auto, unfolding(crate::specs::Reading::algorithm_at))]
-    fn algorithm(&mut self) -> Result<Algorithm, Refusal>
-        ensures { Reads result self.old self.new algorithm_at }
+    fn algorithm(&mut self, banks: Banks) -> Result<Algorithm, Refusal>
+        ensures { Reads result self.old self.new (algorithm_at banks) }
     {
         let identifier = self.u16(Refusal::ParameterCut)?;
-        match Algorithm::from_identifier(identifier) {
+        match Algorithm::known(banks, identifier) {
             Some(algorithm) => Ok(algorithm),
             None => Err(Refusal::ParameterHash),
         }
     }
 
     #[tactic(auto, unfolding(crate::specs::Reading::digest_at))]
-    fn digest(&mut self) -> Result<Measurement, Refusal>
-        ensures { Reads result self.old self.new digest_at }
+    fn digest(&mut self, banks: Banks) -> Result<Measurement, Refusal>
+        ensures { Reads result self.old self.new (digest_at banks) }
     {
-        match self.algorithm()? {
-            Algorithm::Sha256 => Ok(Measurement::Sha256(self.array::<SHA256_DIGEST_SIZE>()?)),
+        match self.algorithm(banks)? {
+            Algorithm::Sha256 => Ok(Measurement::Sha256(self.array()?)),
+            Algorithm::Sha384 => Ok(Measurement::Sha384(self.array()?)),
         }
     }
 
     #[tactic(auto, unfolding(crate::specs::Reading::selection_at))]
-    fn selection(&mut self) -> Result<Selection, Refusal>
-        ensures { Reads result self.old self.new selection_at }
+    fn selection(&mut self, banks: Banks) -> Result<Selection, Refusal>
+        ensures { Reads result self.old self.new (selection_at banks) }
     {
-        let algorithm = self.algorithm()?;
+        let algorithm = self.algorithm(banks)?;
         if self.u8(Refusal::ParameterCut)? as usize != SELECT_SIZE {
             return Err(Refusal::ParameterValue);
         }
@@ -210,60 +211,68 @@ impl Reader<'_> {
         Ok(count)
     }
 
-    fn digests(&mut self, count: usize) -> Result<ArrayVec<Measurement, LIST_SIZE>, Refusal>
+    fn digests(
+        &mut self,
+        banks: Banks,
+        count: usize,
+    ) -> Result<ArrayVec<Measurement, LIST_SIZE>, Refusal>
         requires { count ≤ 16 }
-        ensures { Reads result self.old self.new (many_at digest_at count) }
+        ensures { Reads result self.old self.new (many_at (digest_at banks) count) }
     {
         let mut digests = ArrayVec::new(Measurement::Sha256([0; SHA256_DIGEST_SIZE]));
         for _ in 0..count {
-            digests.push(self.digest()?);
+            digests.push(self.digest(banks)?);
         }
         Ok(digests)
     }
 
-    fn selections(&mut self, count: usize) -> Result<ArrayVec<Selection, LIST_SIZE>, Refusal>
+    fn selections(
+        &mut self,
+        banks: Banks,
+        count: usize,
+    ) -> Result<ArrayVec<Selection, LIST_SIZE>, Refusal>
         requires { count ≤ 16 }
-        ensures { Reads result self.old self.new (many_at selection_at count) }
+        ensures { Reads result self.old self.new (many_at (selection_at banks) count) }
     {
         let mut selections = ArrayVec::new(Selection {
             algorithm: Algorithm::Sha256,
             bits: [0; SELECT_SIZE],
         });
         for _ in 0..count {
-            selections.push(self.selection()?);
+            selections.push(self.selection(banks)?);
         }
         Ok(selections)
     }
 
     #[tactic(auto, unfolding(crate::specs::Reading::pcr_read_at))]
-    fn pcr_read(&mut self) -> Result<Command, Refusal>
-        ensures { Reads result self.old self.new pcr_read_at }
+    fn pcr_read(&mut self, banks: Banks) -> Result<Command, Refusal>
+        ensures { Reads result self.old self.new (pcr_read_at banks) }
     {
         let count = self.count()?;
-        Ok(Command::PcrRead(self.selections(count)?))
+        Ok(Command::PcrRead(self.selections(banks, count)?))
     }
 
     #[tactic(auto, unfolding(crate::specs::Reading::pcr_extend_at))]
-    fn pcr_extend(&mut self) -> Result<Command, Refusal>
-        ensures { Reads result self.old self.new pcr_extend_at }
+    fn pcr_extend(&mut self, banks: Banks) -> Result<Command, Refusal>
+        ensures { Reads result self.old self.new (pcr_extend_at banks) }
     {
         let register = self.handle()?;
         self.authorisation()?;
         let count = self.count()?;
-        let digests = self.digests(count)?;
+        let digests = self.digests(banks, count)?;
         Ok(Command::PcrExtend(Extension::new(register, digests)))
     }
 
     #[tactic(auto, unfolding(crate::specs::Reading::parameters_at))]
-    fn parameters(&mut self, has_saved: bool, code: u32) -> Result<Command, Refusal>
-        ensures { Reads result self.old self.new (parameters_at has_saved code) }
+    fn parameters(&mut self, banks: Banks, has_saved: bool, code: u32) -> Result<Command, Refusal>
+        ensures { Reads result self.old self.new (parameters_at banks has_saved code) }
     {
         match code {
             STARTUP => self.startup(has_saved),
             SHUTDOWN => self.shutdown(),
             GET_RANDOM => self.get_random(),
-            PCR_READ => self.pcr_read(),
-            PCR_EXTEND => self.pcr_extend(),
+            PCR_READ => self.pcr_read(banks),
+            PCR_EXTEND => self.pcr_extend(banks),
             _ => Err(Refusal::CommandCode),
         }
     }
@@ -314,16 +323,21 @@ fn check_locality(command: Command) -> Result<Command, Refusal>
     }
 }
 
-/// The command that the bytes are, or the first check that fails.
+/// The command that the bytes are to a TPM with these banks, or the first check that fails.
 #[tactic(auto, unfolding(crate::specs::Reading::command_at))]
-pub fn command_at(started: bool, has_saved: bool, bytes: &[u8]) -> Result<Command, Refusal>
-    ensures { result ≡ command_at started has_saved bytes.now }
+pub fn command_at(
+    banks: Banks,
+    started: bool,
+    has_saved: bool,
+    bytes: &[u8],
+) -> Result<Command, Refusal>
+    ensures { result ≡ command_at banks started has_saved bytes.now }
 {
     let head = check_started_and_sessions(started, head_at(bytes)?)?;
     let mut reader = Reader {
         rest: &bytes[HEADER_SIZE..],
     };
-    let command = reader.parameters(has_saved, head.code)?;
+    let command = reader.parameters(banks, has_saved, head.code)?;
     if !reader.rest.is_empty() {
         return Err(Refusal::ParameterSize);
     }

@@ -6,7 +6,7 @@ ghost use Rattle.vt_base.specs.Buffer.{followed_by_zeros};
 ghost use Rattle.tpm_core.specs.Selected.{AreThere, all_registers, chosen_of};
 ghost use Rattle.tpm_core.specs.Answers.{with_header, entry_read, digest_read, response};
 
-use crate::algorithm::{Algorithm, SHA256_DIGEST_SIZE};
+use crate::algorithm::{Algorithm, SHA256_DIGEST_SIZE, SHA384_DIGEST_SIZE};
 use crate::array_vec::ArrayVec;
 use crate::command::{Command, LIST_SIZE, SELECT_SIZE, Selection};
 use crate::parts::TpmParts;
@@ -117,6 +117,10 @@ fn push_digest(parts: &TpmParts, register: Register, body: &mut Body)
         Algorithm::Sha256 => {
             body.push(&(SHA256_DIGEST_SIZE as u16).to_be_bytes());
             body.push(&parts.pcr[register.index]);
+        }
+        Algorithm::Sha384 => {
+            body.push(&(SHA384_DIGEST_SIZE as u16).to_be_bytes());
+            body.push(&parts.pcr384[register.index]);
         }
     }
 }

@@ -8,7 +8,7 @@ use crate::array_vec::ArrayVec;
 use crate::command::SELECT_SIZE;
 use crate::parts::PCR_COUNT;
 
-/// How many registers one read reads at most.
+/// How many registers one read reads at most, of all banks together.
 pub const READ_AT_ONCE: usize = 8;
 
 /// A register of a bank.

@@ -7,7 +7,7 @@ ghost use Rattle.tpm_core.specs.Answers.{Entry, PowerOn, Executed, powered_on, c
 ghost use Rattle.tpm_core.specs.Responses.{IsResponse};
 ghost use Rattle.tpm_core.specs.Steps.{after_change, IsConsistent, IsValid, IsInReach};
 
-use crate::algorithm::SHA256_DIGEST_SIZE;
+use crate::algorithm::{Banks, SHA256_DIGEST_SIZE, SHA384_DIGEST_SIZE};
 use crate::command::Command;
 use crate::parts::{PCR_COUNT, SEED_SIZE, TpmParts};
 use crate::reader::command_at;
@@ -81,7 +81,7 @@ fn execute(parts: &mut TpmParts, command: &[u8], into: &mut Buf) -> usize
         → into.new ≡ followed_by_zeros (answer b past command.now) }
     ensures is_response { IsResponse (answer parts.old [] command.now) }
 {
-    match command_at(parts.started, parts.saved.is_some(), command) {
+    match command_at(parts.banks, parts.started, parts.saved.is_some(), command) {
         Ok(command) => execute_command(parts, command, into),
         Err(refusal) => write_short(refusal.code(), into),
     }
@@ -100,20 +100,23 @@ fn power_on(parts: &mut TpmParts)
 impl Tpm {
     ghost use Rattle.tpm_core.specs.Fresh.{manufactured};
 
-    /// A TPM that power never came to. Its random bytes are hashed from the seed: two TPMs of one seed give the same.
+    /// A TPM with these banks that power never came to. Its random bytes are hashed from the seed: two TPMs of one seed
+    /// give the same.
     #[tactic(auto, unfolding(crate::specs::Banks::blank_bank))]
-    pub fn manufacture(seed: [u8; SEED_SIZE]) -> Tpm
-        ensures parts { result ≡ manufactured seed }
+    pub fn manufacture(seed: [u8; SEED_SIZE], banks: Banks) -> Tpm
+        ensures parts { result ≡ manufactured seed banks }
         ensures fit { IsValid result }
         ensures no_past { values_after result [] ≡ result }
     {
         Tpm {
             parts: TpmParts {
                 seed,
+                banks,
                 boots: 0,
                 draws: 0,
                 started: false,
                 pcr: [[0; SHA256_DIGEST_SIZE]; PCR_COUNT],
+                pcr384: [[0; SHA384_DIGEST_SIZE]; PCR_COUNT],
                 counter: 0,
                 saved: None,
             },
@@ -142,7 +145,7 @@ impl Tpm {
         &self.parts
     }
 
-    /// Power comes on: only the seed, the count of boots and the saved state outlast it. The TPM waits for a start.
+    /// Power comes on: only the seed, the banks' number, the count of boots and the saved state outlast it. The TPM waits for a start.
     #[tactic(auto, using(crate::proofs::Law::no_past))]
     pub fn power_on(&mut self)
         ensures now { self.new ≡ powered_on self.old }

@@ -1,3 +1,4 @@
+mod WorkedTranscripts
 pub mod WithoutFault
 mod Unlost
 mod Rejoining

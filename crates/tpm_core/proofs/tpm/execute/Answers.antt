@@ -8,7 +8,7 @@ use Rattle.tpm_core.proofs.Replies.{answer_is_response}
 use Rattle.tpm_core.proofs.tpm.execute.Goals as goal
 
 pub execute_command-requires : goal.execute_command-requires
-execute_command-requires c = in_reach c.args.parts.now.started c.is_some.result c.args.command.now c.in-Ok.command c.in-Ok.ensures
+execute_command-requires c = in_reach c.args.parts.now.banks c.args.parts.now.started c.is_some.result c.args.command.now c.in-Ok.command c.in-Ok.ensures
 
 values-ok : goal.returns-in-Ok-clause-values
 values-ok c =

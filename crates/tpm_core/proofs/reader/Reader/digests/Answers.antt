@@ -8,13 +8,13 @@ use Rattle.tpm_core.proofs.reader.Reader.digests.Goals as goal
 pub returns-in_err-digest : goal.returns-in_err-digest
 returns-in_err-digest c =
     let p = err_from_is_err_and c.from_residual.result c.from_residual.ensures.1 in
-    rw (p.1, p.2) (ends digest_at c.in_err-digest.field-0.0 c.loop.digests c.args.count c.loop.counter c.loop.self (many_at digest_at c.args.count c.args.self.now) c.loop-test.true c.in_err-digest.ensures c.loop.invariant.exact)
+    rw (p.1, p.2) (ends (digest_at c.args.banks) c.in_err-digest.field-0.0 c.loop.digests c.args.count c.loop.counter c.loop.self (many_at (digest_at c.args.banks) c.args.count c.args.self.now) c.loop-test.true c.in_err-digest.ensures c.loop.invariant.exact)
 
 pub loop-preserved : goal.loop-preserved
 loop-preserved c = record {
-  exact = rw c.push.ensures (goes_on digest_at c.loop.digests c.args.count c.loop.counter c.loop.self c.in_ok-digest.field-0 c.digest.new.self (many_at digest_at c.args.count c.args.self.now) c.loop-test.true c.in_ok-digest.ensures c.loop.invariant.exact);
+  exact = rw c.push.ensures (goes_on (digest_at c.args.banks) c.loop.digests c.args.count c.loop.counter c.loop.self c.in_ok-digest.field-0 c.digest.new.self (many_at (digest_at c.args.banks) c.args.count c.args.self.now) c.loop-test.true c.in_ok-digest.ensures c.loop.invariant.exact);
   as_many = ap length c.push.ensures ∙ length-append c.loop.digests (c.in_ok-digest.field-0 ∷ []) ∙ omega (arith, c.loop.invariant.as_many);
 }
 
 pub returns : goal.returns
-returns c = is_done digest_at c.loop.digests c.args.count c.loop.counter c.loop.self (many_at digest_at c.args.count c.args.self.now) c.loop-test.false c.loop.invariant.exact
+returns c = is_done (digest_at c.args.banks) c.loop.digests c.args.count c.loop.counter c.loop.self (many_at (digest_at c.args.banks) c.args.count c.args.self.now) c.loop-test.false c.loop.invariant.exact

@@ -5,6 +5,6 @@ use Rattle.tpm_core.proofs.reader.Reader.digests.Given as goal
 
 abbrev pub invariant-loop : goal.invariant-loop
 invariant-loop l = record {
-  exact : with_prefix l.digests (many_at digest_at (l.count - l.counter) l.self) ≡ many_at digest_at l.count l.fn.self;
+  exact : with_prefix l.digests (many_at (digest_at l.banks) (l.count - l.counter) l.self) ≡ many_at (digest_at l.banks) l.count l.fn.self;
   as_many : length l.digests ≡ l.counter;
 }

@@ -5,6 +5,6 @@ use Rattle.tpm_core.proofs.reader.Reader.selections.Given as goal
 
 abbrev pub invariant-loop : goal.invariant-loop
 invariant-loop l = record {
-  exact : with_prefix l.selections (many_at selection_at (l.count - l.counter) l.self) ≡ many_at selection_at l.count l.fn.self;
+  exact : with_prefix l.selections (many_at (selection_at l.banks) (l.count - l.counter) l.self) ≡ many_at (selection_at l.banks) l.count l.fn.self;
   as_many : length l.selections ≡ l.counter;
 }

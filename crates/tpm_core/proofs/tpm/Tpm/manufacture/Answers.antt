@@ -7,4 +7,4 @@ use Rattle.tpm_core.proofs.tpm.Tpm.manufacture.Goals as goal
 
 pub returns-clause-no_past : goal.returns-clause-no_past
 unfolding blank_bank
-returns-clause-no_past c = no_past (manufactured c.args.seed) (fit-manufactured c.args.seed (search rules))
+returns-clause-no_past c = no_past (manufactured c.args.seed c.args.banks) (fit-manufactured c.args.seed c.args.banks (search rules))
