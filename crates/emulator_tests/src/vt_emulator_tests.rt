@@ -5,6 +5,7 @@ ghost use Rattle.std.specs.Prelude.{◌<◌, ◌≤◌};
 use ctrl_codec::{Out, Request, write_request};
 use std::alloc::{AllocError, Global};
 use std::test::*;
+use tpm_core::Banks;
 use vt_base::Buf;
 use vt_emulator::laws::{command_in_parts, control_in_parts, steps_are_deterministic, three_close};
 use vt_emulator::*;
@@ -140,6 +141,30 @@ const BLOBS: [Step; 16] = [
     Ask(STOP, DONE),
     Ask("0000000200000001", DONE),
     Ask("0000000d00000001000000040000000158", "0000000a"),
+];
+
+/// To an emulator with a TPM of two banks: its blobs have version 2, and none of version 1 is taken beside its permanent
+/// one.
+const OF_TWO_BANKS: [Step; 9] = [
+    Ask(INIT, DONE),
+    Ask(
+        "0000000c000000000000000200000000",
+        "00000000000000000000000a0000000a43524256020000000100",
+    ),
+    Ask(STOP, DONE),
+    Ask(
+        "0000000d000000000000000100000031435242500200000028\
+         00000000000000000000000000000000000000000000000000000000000000000000000000000001",
+        DONE,
+    ),
+    Ask("0000000d00000000000000020000000a43524256010000000100", DONE),
+    Ask(INIT, BAD),
+    Ask(STOP, DONE),
+    Ask(INIT, DONE),
+    Ask(
+        "0000000c000000000000000300000000",
+        "00000000000000000000000a0000000a4352425a020000000100",
+    ),
 ];
 
 /// A TPM whose volatile state was stored isn't powered on, once.
@@ -357,7 +382,7 @@ fn first_mismatch_anew(
     requires most { piece ≤ 4096 }
     requires size { 0 < size }
 {
-    let mut emulator = Emulator::new(alloc, [0; 32], piece)?;
+    let mut emulator = Emulator::new(alloc, [0; 32], Banks::One, piece)?;
     Ok(first_mismatch(alloc, &mut emulator, size, steps))
 }
 
@@ -373,6 +398,14 @@ fn replies_are_the_same_in_any_chunks(rt: HostRuntime) -> Result<(), Fail> {
             assert_eq!(rt; wrong, None, "table {number}");
         }
     }
+    Ok(())
+}
+
+#[test]
+fn versions_of_two_banks(rt: HostRuntime) -> Result<(), Fail> {
+    let mut emulator = Emulator::new(rt.alloc(), [0; 32], Banks::Two, 4096)?;
+    let wrong = first_mismatch(rt.alloc(), &mut emulator, 5, &OF_TWO_BANKS);
+    assert_eq!(rt; wrong, None);
     Ok(())
 }
 
@@ -443,7 +476,7 @@ fn moves(alloc: Global, source: &mut Emulator, target: &mut Emulator) -> bool {
 
 #[test]
 fn a_tpm_that_moves(rt: HostRuntime) -> Result<(), Fail> {
-    let mut source = Emulator::new(rt.alloc(), [0; 32], 4096)?;
+    let mut source = Emulator::new(rt.alloc(), [0; 32], Banks::One, 4096)?;
     let mut target = Emulator::empty(rt.alloc(), 4096)?;
     assert!(rt; moves(rt.alloc(), &mut source, &mut target));
     Ok(())
@@ -464,7 +497,7 @@ fn forgets(alloc: Global, emulator: &mut Emulator) -> bool {
 
 #[test]
 fn forgotten_parts(rt: HostRuntime) -> Result<(), Fail> {
-    let mut emulator = Emulator::new(rt.alloc(), [0; 32], 4096)?;
+    let mut emulator = Emulator::new(rt.alloc(), [0; 32], Banks::One, 4096)?;
     assert!(rt; forgets(rt.alloc(), &mut emulator));
     Ok(())
 }

@@ -1,5 +1,7 @@
 -- A walk over the headers of a stream ends with it.
-use Rattle.std.proofs.Common.{◌≡◌, ℕ, ◌+◌, ◌-◌, ◌<◌, ◌≤◌, Bool, true, false, cond, ◌&&◌, List, [], ◌∷◌, ◌++◌, length, take, drop, Result, Ok, Err, refl, sym, ap, subst, ◌∙◌, arith, inl, inr, append_assoc, get_or}
+use Rattle.std.proofs.Common.{◌≡◌, ℕ, ◌+◌, ◌-◌, ◌<◌, ◌≤◌, Bool, true, false, cond, ◌&&◌, List, [], ◌∷◌, ◌++◌, length, take, drop, Option, Some, None, Result, Ok, Err, refl, sym, ap, subst, ◌∙◌, arith, inl, inr, append_assoc, get_or}
+use Rattle.std.specs.Prelude.{nat_eq, slice_index}
+use Rattle.std.specs.List.{starts_with}
 use Rattle.std.specs.Int.{w32, from_be_bytes}
 use Rattle.std.proofs.lemmas.Bool.{cases_lt}
 use Rattle.std.proofs.lemmas.Bool.Decides.{nat_tests}
@@ -8,19 +10,22 @@ use Rattle.std.proofs.lemmas.Nat.{from_be_bytes-to_be_bytes_4}
 use Rattle.std.proofs.Math.Seq.{take-add}
 use Rattle.vt_base.specs.Numbers.{number, short}
 use Rattle.vt_base.specs.declared.grammar.Missing.{Missing}
-use Rattle.vt_base.specs.Layout.{Ends, Field, Encodes, number_then}
+use Rattle.vt_base.specs.Layout.{Layout, Ends, Field, Encodes, byte_then, number_then}
 use Rattle.vt_base.specs.Parsing.{missing, parsed}
-use Rattle.vt_base.specs.Refusing.{malformed, refuse}
+use Rattle.vt_base.specs.Refusing.{malformed}
 use Rattle.vt_base.proofs.Prefixes.{passed}
 use Rattle.vt_base.proofs.Layouts.{parsed_encodes, parsed-append-wants, wants_positive, encodes_prefix, one_encoding}
 use Rattle.vt_base.specs.declared.types.Kind.{Kind}
 use Rattle.vt_base.specs.declared.types.Kind.TheVariants.{Permanent, Volatile, Saved}
-use Rattle.vt_base.specs.declared.types.Why.TheVariants.{Version, Length, Value}
+use Rattle.vt_base.specs.declared.types.Why.TheVariants.{Length, Value}
 use Rattle.crb_machine.specs.Values.{DeviceValues}
 use Rattle.device_record.specs.Records as records
 use Rattle.device_record.specs.Records.{encode_record, trimmed, IsRecord}
+use Rattle.tpm_core.specs.declared.algorithm.Banks.{Banks}
+use Rattle.tpm_core.specs.declared.algorithm.Banks.TheVariants.{One, Two}
+use Rattle.state_blobs.specs.Numbers.{banks_named}
 use Rattle.state_blobs.specs.Encodings.{magic_of, is_length, flag_fits}
-use Rattle.state_blobs.specs.Blobs.{body_then, after_magic, blob}
+use Rattle.state_blobs.specs.Blobs.{body_then, sized_then, after_version, after_magic, blob}
 use Rattle.state_blobs.specs.Refusals.{length_field}
 use Rattle.crb_history.specs.Snapshot.{Snapshot}
 use Rattle.saved_stream.specs.Numbers.{format_version}
@@ -29,8 +34,8 @@ use Rattle.saved_stream.specs.declared.part.Part.TheVariants.{Record, Blob}
 use Rattle.saved_stream.specs.Parts.{parts, IsWhole}
 use Rattle.saved_stream.specs.Streams.{magic, IsStream}
 use Rattle.saved_stream.specs.Refusals.{HasHead}
-use Rattle.saved_stream.specs.Headers.{may_follow, begins, is_header, parts_then, walk, lack, wanted_after}
-use Rattle.saved_stream.proofs.Heads.{begin, magic_byte_decoded, magic_decoded}
+use Rattle.saved_stream.specs.Headers.{may_follow, begins, is_length_of, is_header, parts_then, walk, lack, wanted_after}
+use Rattle.saved_stream.proofs.Heads.{begin, magic_decoded}
 use Rattle.saved_stream.proofs.PartLaws.{LawsOfParts, laws_of}
 use Rattle.saved_stream.proofs.Apart.{AreWhole}
 use Rattle.saved_stream.proofs.Once.{parts_whole, stream_head, stream_parts}
@@ -43,37 +48,64 @@ pub record IsHeaded (part : Part) (bytes : List ℕ) : Type 0 where
 
 -- ---- a blob
 
-begins_blob : (kind : Kind) (rest : List ℕ) → begins (magic_of kind) (magic_of kind ++ format_version ∷ rest) ≡ true
-begins_blob Permanent rest = refl
-begins_blob Volatile rest = refl
-begins_blob Saved rest = refl
+pub begins_blob : (kind : Kind) (version : ℕ) (rest : List ℕ) → starts_with nat_eq (magic_of kind ++ version ∷ rest) (magic_of kind) ≡ true
+begins_blob Permanent version rest = refl
+begins_blob Volatile version rest = refl
+begins_blob Saved version rest = refl
 
-some_body : (kind : Kind) (count : ℕ) → is_length kind count ≡ true → 1 ≤ count
-some_body Permanent count is = grind (arith, nat_tests)
-some_body Volatile count is = grind (arith, nat_tests)
-some_body Saved count is = grind (arith, nat_tests)
+pub some_body : (kind : Kind) (banks : Banks) (count : ℕ) → is_length kind banks count ≡ true → 1 ≤ count
+some_body Permanent banks count is = grind (arith, nat_tests)
+some_body Volatile One count is = grind (arith, nat_tests)
+some_body Volatile Two count is = grind (arith, nat_tests)
+some_body Saved One count is = grind (arith, nat_tests)
+some_body Saved Two count is = grind (arith, nat_tests)
+
+pub both : (a b : Bool) → a ≡ true → b ≡ true → a && b ≡ true
+both a b p q = rw (p, q) refl
+
+pub take_four : (rest : List ℕ) → 4 ≤ length rest → take 4 (take 4 rest) ≡ take 4 rest
+take_four rest le = take_all 4 (take 4 rest) (omega (arith, length-take 4 rest))
+
+-- the header of a blob, by its bytes
+pub is_blob_header : (kind : Kind) (banks : Banks) (version count : ℕ) (rest header : List ℕ) → header ≡ magic_of kind ++ version ∷ rest → banks_named version ≡ Some banks → length_field header ≡ count → is_length kind banks count ≡ true
+    → is_header (Blob kind) header ≡ true
+is_blob_header kind banks version count rest header is named field allowed =
+    let begun : starts_with nat_eq header (magic_of kind) ≡ true = ap (λ (t : List ℕ). starts_with nat_eq t (magic_of kind)) is ∙ begins_blob kind version rest in
+    let at : slice_index header 4 ≡ version = ap (λ (t : List ℕ). slice_index t 4) is in
+    let may : is_length_of kind (banks_named (slice_index header 4)) (length_field header) ≡ true =
+    ap (λ (v : ℕ). is_length_of kind (banks_named v) (length_field header)) at ∙ ap (λ (n : Option Banks). is_length_of kind n (length_field header)) named ∙ ap (is_length kind banks) field ∙ allowed in
+    both (starts_with nat_eq header (magic_of kind)) (is_length_of kind (banks_named (slice_index header 4)) (length_field header)) begun may
+
+byte_decoded : {E : Type 0} (next : ℕ → Layout E) (end : E) (bytes : List ℕ) → Encodes (byte_then next) end bytes → (byte : ℕ) × (rest : List ℕ) × (bytes ≡ byte ∷ rest) × Encodes (next byte) end rest
+byte_decoded next end [] spelled = absurd (omega (arith, spelled.0))
+byte_decoded next end (b ∷ rest) spelled = (b, rest, refl, spelled.1)
+
+version_decoded : (kind : Kind) (named : Option Banks) (bytes : List ℕ) → Encodes (after_version kind named) (Ok tt) bytes → (banks : Banks) × (named ≡ Some banks) × Encodes (number_then (sized_then kind banks)) (Ok tt) bytes
+version_decoded kind None bytes (is, ends) = absurd cc
+version_decoded kind (Some banks) bytes spelled = (banks, refl, spelled)
 
 headed_blob : (kind : Kind) (bytes : List ℕ) → Encodes (blob kind) (Ok tt) bytes → IsHeaded (Blob kind) bytes
 unfolding blob
 headed_blob kind bytes spelled =
     let marks = magic_decoded (magic_of kind) 0 (after_magic kind) bytes spelled in
-    let next = number_then (λ count. cond (is_length kind count) (body_then kind count) (refuse Length 5)) in
-    let version = magic_byte_decoded format_version Version 4 next tt marks.0 marks.2 in
-    let rest : List ℕ = version.0 in
+    let first = byte_decoded (λ (version : ℕ). after_version kind (banks_named version)) (Ok tt) marks.0 marks.2 in
+    let version = version_decoded kind (banks_named first.0) first.1 first.3 in
+    let banks : Banks = version.0 in
+    let rest : List ℕ = first.1 in
     let count : ℕ = from_be_bytes w32 (take 4 rest) in
-    let allowed = passed (is_length kind count) (body_then kind count) (malformed Length 5) tt (drop 4 rest) version.2.1 in
+    let allowed = passed (is_length kind banks count) (body_then kind count) (malformed Length 5) tt (drop 4 rest) version.2.1 in
     let body = passed (flag_fits kind count (get_or (take 1 (drop 4 rest)) 0 0)) (Field (count - 1) (λ _. Ends (Ok tt))) (malformed Value 9) tt (drop 1 (drop 4 rest)) allowed.1.1 in
-    let all : bytes ≡ (magic_of kind ++ format_version ∷ []) ++ rest = marks.1 ∙ ap (λ (t : List ℕ). magic_of kind ++ t) version.1 in
-    let prefix : take 9 bytes ≡ magic_of kind ++ format_version ∷ take 4 rest = ap (take 9) all in
+    let all : bytes ≡ (magic_of kind ++ first.0 ∷ []) ++ rest = marks.1 ∙ ap (λ (t : List ℕ). magic_of kind ++ t) first.2 in
+    let prefix : take 9 bytes ≡ magic_of kind ++ first.0 ∷ take 4 rest = ap (take 9) all in
     let field : length_field (take 9 bytes) ≡ count = ap length_field prefix ∙ ap (λ (t : List ℕ). from_be_bytes w32 t) (take_four rest version.2.0) in
     let ends : drop (count - 1) (drop 1 (drop 4 rest)) ≡ [] = body.1.1.1 in
     record {
-      long = omega (arith, ap length all, version.2.0, length-append (magic_of kind ++ format_version ∷ []) rest);
-      is = both (begins (magic_of kind) (take 9 bytes)) (is_length kind (length_field (take 9 bytes))) (ap (begins (magic_of kind)) prefix ∙ begins_blob kind (take 4 rest)) (ap (is_length kind) field ∙ allowed.0);
+      long = omega (arith, ap length all, version.2.0, length-append (magic_of kind ++ first.0 ∷ []) rest);
+      is = is_blob_header kind banks first.0 count (take 4 rest) (take 9 bytes) prefix version.1 field allowed.0;
       size = omega (
         arith,
         ap length all,
-        length-append (magic_of kind ++ format_version ∷ []) rest,
+        length-append (magic_of kind ++ first.0 ∷ []) rest,
         field,
         ap length ends,
         length-drop (count - 1) (drop 1 (drop 4 rest)),
@@ -82,20 +114,23 @@ headed_blob kind bytes spelled =
         body.1.0,
         allowed.1.0,
         version.2.0,
-        some_body kind count allowed.0,
+        some_body kind banks count allowed.0,
       );
     }
-  where
-    both : (a b : Bool) → a ≡ true → b ≡ true → a && b ≡ true
-    both a b p q = rw (p, q) refl
-
-    take_four : (rest : List ℕ) → 4 ≤ length rest → take 4 (take 4 rest) ≡ take 4 rest
-    take_four rest le = take_all 4 (take 4 rest) (omega (arith, length-take 4 rest))
 
 -- ---- a record
 
-may_record : (count : ℕ) → count ≤ 3968 → may_follow Record (14 + count) ≡ true
+may_record : (count : ℕ) → count ≤ 3968 → may_follow Record format_version (14 + count) ≡ true
 may_record count le = grind (arith, nat_tests)
+
+-- the header of a record, by its bytes
+pub is_record_header : (count : ℕ) (rest header : List ℕ) → header ≡ records.magic ++ format_version ∷ rest → length_field header ≡ count → may_follow Record format_version count ≡ true → is_header Record header ≡ true
+is_record_header count rest header is field allowed =
+    let begun : starts_with nat_eq header records.magic ≡ true = ap (λ (t : List ℕ). starts_with nat_eq t records.magic) is in
+    let at : slice_index header 4 ≡ format_version = ap (λ (t : List ℕ). slice_index t 4) is in
+    let may : may_follow Record (slice_index header 4) (length_field header) ≡ true =
+    ap (λ (v : ℕ). may_follow Record v (length_field header)) at ∙ ap (may_follow Record format_version) field ∙ allowed in
+    both (starts_with nat_eq header records.magic) (may_follow Record (slice_index header 4) (length_field header)) begun may
 
 headed_record : (bytes : List ℕ) (v : DeviceValues) → length bytes ≤ 3991 → IsRecord bytes v → IsHeaded Record bytes
 unfolding encode_record
@@ -104,11 +139,9 @@ headed_record bytes v within_limit is =
     let size : length bytes ≡ 23 + count = ap length is.spelled ∙ length-append (records.encode_header (records.fields_of v)) (trimmed v.content) in
     let prefix : take 9 bytes ≡ records.magic ++ format_version ∷ number (14 + count) = ap (take 9) is.spelled in
     let field : length_field (take 9 bytes) ≡ 14 + count = ap length_field prefix ∙ from_be_bytes-to_be_bytes_4 (14 + count) (omega (arith, size, within_limit)) in
-    let begun : begins records.magic (take 9 bytes) ≡ true = ap (begins records.magic) prefix in
-    let may : may_follow Record (length_field (take 9 bytes)) ≡ true = ap (may_follow Record) field ∙ may_record count (omega (arith, size, within_limit)) in
     record {
       long = omega (arith, size);
-      is = rw (begun, may) refl;
+      is = is_record_header (14 + count) (number (14 + count)) (take 9 bytes) prefix field (may_record count (omega (arith, size, within_limit)));
       size = omega (arith, size, field);
     }
 

@@ -17,19 +17,41 @@ use Rattle.state_blobs.specs.declared.types.BlobFault.{BlobFault}
 use Rattle.state_blobs.specs.Encodings.{encode_blob}
 use Rattle.state_blobs.specs.Blobs.{Ending}
 use Rattle.state_blobs.specs.Refusals.{length_field}
-use Rattle.state_blobs.specs.Assembly.{IsAssembled, Disagrees}
+use Rattle.state_blobs.specs.Numbers.{version_place}
+use Rattle.state_blobs.specs.Assembly.{IsAssembled, IsFault, Disagrees, version_in, version_fault}
 use Rattle.crb_history.specs.Snapshot.{Snapshot, IsValidSnapshot}
 use Rattle.saved_stream.specs.Parts.{parts}
 use Rattle.saved_stream.specs.Streams.{with_head, encode_parts, encode_stream, IsStream}
-use Rattle.saved_stream.specs.Refusals.{head, IsHeadRefusedFor, HasHead, ArePartsRefused, HasParts, total, place_of_saved, IsWholeRefusedFor, IsWholeRefused, IsStreamRefused}
+use Rattle.saved_stream.specs.Refusals.{head, IsHeadRefusedFor, HasHead, ArePartsRefused, HasParts, total, place_of_saved, OtherVersionAt, AreOfOneVersion, IsWholeRefusedFor, IsWholeRefused, IsStreamRefused}
 use Rattle.saved_stream.proofs.Heads.{begin, head_encodes}
 use Rattle.saved_stream.proofs.PartLaws.{LawsOfParts}
 use Rattle.saved_stream.proofs.Apart.{whole_not_refused, parts_once, prefix_cut, parts_stay}
-use Rattle.saved_stream.proofs.Once.{head_not_refused, head_once, same_malformed, parts_whole, one_parting, same_total, stream_behind, stream_head, stream_length, parts_few, stream_parts}
+use Rattle.saved_stream.proofs.Once.{head_not_refused, head_once, same_malformed, parts_whole, SameParts, one_parting, same_total, stream_behind, stream_head, stream_length, parts_few, stream_parts}
 
 -- the fault that three blobs disagree at a place of the third
 abbrev disagreeing : ℕ → BlobFault
 disagreeing place = record { kind = Saved; fault = malformed Value place }
+
+-- what the whole shows of three blobs is a fault of theirs
+version_blamed : {bytes : List ℕ} (p : HasParts bytes) (place : ℕ) → OtherVersionAt place p → (f : BlobFault) × IsFault p.permanent p.volatile p.saved f
+version_blamed p place (inl (at, other)) = (version_fault Volatile, (refl, p.is_permanent, (p.is_volatile, other), inr p.is_saved))
+version_blamed p place (inr (at, same, other)) = (version_fault Saved, (refl, p.is_permanent, inr (p.is_volatile, same), (p.is_saved, other)))
+
+disagreement_blamed : {bytes : List ℕ} (p : HasParts bytes) (place : ℕ) → AreOfOneVersion p → Disagrees place p.volatile p.saved → IsFault p.permanent p.volatile p.saved (disagreeing place)
+disagreement_blamed p place one d = (p.is_permanent, (p.is_volatile, one.0), (p.is_saved, one.1), d)
+
+-- the parts of bytes are of one version or not, and at one place
+one_other : {bytes : List ℕ} (p q : HasParts bytes) (m n : ℕ) → SameParts p q → OtherVersionAt m p → OtherVersionAt n q → m ≡ n
+one_other p q m n s (inl (at, other)) (inl (at_too, other_too)) =
+    at ∙ ap (λ (t : List ℕ). 9 + length t + version_place) (rw (s.device, s.permanent) refl) ∙ sym at_too
+one_other p q m n s (inl (at, other)) (inr (at_too, same, other_too)) = absurd (other (ap version_in s.volatile ∙ same ∙ sym (ap version_in s.permanent)))
+one_other p q m n s (inr (at, same, other)) (inl (at_too, other_too)) = absurd (other_too (sym (ap version_in s.volatile) ∙ same ∙ ap version_in s.permanent))
+one_other p q m n s (inr (at, same, other)) (inr (at_too, same_too, other_too)) =
+    at ∙ ap (λ (t : List ℕ). 9 + length t + version_place) (rw (s.device, s.permanent, s.volatile) refl) ∙ sym at_too
+
+other_or_one : {bytes : List ℕ} (p q : HasParts bytes) (m : ℕ) → SameParts p q → OtherVersionAt m p → AreOfOneVersion q → ⊥
+other_or_one p q m s (inl (at, other)) one = other (ap version_in s.volatile ∙ one.0 ∙ sym (ap version_in s.permanent))
+other_or_one p q m s (inr (at, same, other)) one = other (ap version_in s.saved ∙ one.1 ∙ sym (ap version_in s.permanent))
 
 module _ (k : LawsOfParts) where
   -- ---- a stream, and the bytes behind it
@@ -40,11 +62,12 @@ module _ (k : LawsOfParts) where
   prefix_length : (prefix : List ℕ) (b : Snapshot) → IsStream prefix b → length prefix ≡ 9 + length (encode_parts b)
   prefix_length prefix b s = omega (arith, ap length (stream_behind prefix b s), length-append (begin ++ number (length (encode_parts b))) (encode_parts b))
 
-  -- the TPM of a stream agrees with its saved state
-  no_disagreement : (b : Snapshot) (prefix : List ℕ) → IsStream prefix b → (place : ℕ) → Disagrees place (encode_blob Volatile b.tpm) (encode_blob Saved b.tpm) → ⊥
-  no_disagreement b prefix s place d =
-      k.tpm_or_fault (encode_blob Permanent b.tpm) (encode_blob Volatile b.tpm) (encode_blob Saved b.tpm) b.tpm (disagreeing place) (k.tpm_made b.tpm s.fit.tpm)
-      (record { values = b.tpm; fit = s.fit.tpm; spelled = refl }, d)
+  -- the blobs of a stream are at no fault
+  no_blame : (bytes prefix more : List ℕ) (b : Snapshot) (is : bytes ≡ prefix ++ more) (s : IsStream prefix b) (p : HasParts bytes) (f : BlobFault) → IsFault p.permanent p.volatile p.saved f → ⊥
+  no_blame bytes prefix more b is s p f fault =
+      let same = one_parting k bytes p (stream_parts k bytes prefix more b is s) in
+      let made : IsAssembled p.permanent p.volatile p.saved b.tpm = rw (same.permanent, same.volatile, same.saved) (k.tpm_made b.tpm s.fit.tpm) in
+      k.tpm_or_fault p.permanent p.volatile p.saved b.tpm f made fault
 
   -- two streams at the start of the same bytes are as long
   same_length : (bytes prefix more other rest : List ℕ) (b c : Snapshot) (is : bytes ≡ prefix ++ more) (was : bytes ≡ other ++ rest) (s : IsStream prefix b) (t : IsStream other c) → length prefix ≡ length other
@@ -56,14 +79,12 @@ module _ (k : LawsOfParts) where
   only_extra : (why : Why) (place : ℕ) (bytes prefix more : List ℕ) (b : Snapshot) (is : bytes ≡ prefix ++ more) (s : IsStream prefix b) → IsWholeRefusedFor why place bytes → (why ≡ Extra) × (place ≡ length prefix) × (place < length bytes)
   only_extra Length place bytes prefix more b is s row =
       absurd (row.2 (has_total bytes prefix more b is s ∙ same_total k bytes (stream_parts k bytes prefix more b is s) row.0))
-  only_extra Value place bytes prefix more b is s row =
-      let same = one_parting k bytes row.0 (stream_parts k bytes prefix more b is s) in
-      absurd (no_disagreement b prefix s row.2 (subst (λ (v : List ℕ). Disagrees row.2 v (encode_blob Saved b.tpm)) same.volatile (subst (λ (z : List ℕ). Disagrees row.2 row.0.volatile z) same.saved row.3)))
+  only_extra Version place bytes prefix more b is s row = let blamed = version_blamed row.0 place row.2 in absurd (no_blame bytes prefix more b is s row.0 blamed.0 blamed.1)
+  only_extra Value place bytes prefix more b is s row = absurd (no_blame bytes prefix more b is s row.0 (disagreeing row.3) (disagreement_blamed row.0 row.3 row.2 row.4))
   only_extra Extra place bytes prefix more b is s row =
       let same = same_length bytes prefix more (take place bytes) (drop place bytes) b row.1 is (sym (take-append-drop place bytes)) s row.2 in
       (refl, omega (arith, same, length-take place bytes, row.0), row.0)
   only_extra Magic place bytes prefix more b is s row = absurd row
-  only_extra Version place bytes prefix more b is s row = absurd row
   only_extra Cut place bytes prefix more b is s row = absurd row
 
   -- ---- not refused
@@ -90,11 +111,11 @@ module _ (k : LawsOfParts) where
 
   -- ---- one refusal
 
-  same_disagreement : (bytes : List ℕ) (p q : HasParts bytes) (m n : ℕ) → Disagrees m p.volatile p.saved → Disagrees n q.volatile q.saved → m ≡ n
-  same_disagreement bytes p q m n d e =
+  same_disagreement : (bytes : List ℕ) (p q : HasParts bytes) (m n : ℕ) → AreOfOneVersion p → Disagrees m p.volatile p.saved → Disagrees n q.volatile q.saved → m ≡ n
+  same_disagreement bytes p q m n one d e =
       let same = one_parting k bytes q p in
       let e' = subst (λ (v : List ℕ). Disagrees n v p.saved) same.volatile (subst (λ (z : List ℕ). Disagrees n q.volatile z) same.saved e) in
-      ap (λ (f : BlobFault). f.fault.place) (k.one_fault p.permanent p.volatile p.saved (disagreeing m) (disagreeing n) (p.is_permanent, d) (p.is_permanent, e'))
+      ap (λ (f : BlobFault). f.fault.place) (k.one_fault p.permanent p.volatile p.saved (disagreeing m) (disagreeing n) (disagreement_blamed p m one d) (disagreement_blamed p n one e'))
 
   same_place : (bytes : List ℕ) (p q : HasParts bytes) → place_of_saved p ≡ place_of_saved q
   same_place bytes p q = let s = one_parting k bytes p q in ap (λ (t : List ℕ). 9 + length t) (rw (s.device, s.permanent, s.volatile) refl)
@@ -107,26 +128,32 @@ module _ (k : LawsOfParts) where
   whole_once : (bytes : List ℕ) (why : Why) (p : ℕ) (other : Why) (q : ℕ) → IsWholeRefusedFor why p bytes → IsWholeRefusedFor other q bytes → (why ≡ other) × (p ≡ q)
   whole_once bytes Extra p other q row row_too = let same = after_stream p other q bytes row row_too in (sym same.0, sym same.1)
   whole_once bytes Length p Extra q row row_too = after_stream q Length p bytes row_too row
+  whole_once bytes Version p Extra q row row_too = after_stream q Version p bytes row_too row
   whole_once bytes Value p Extra q row row_too = after_stream q Value p bytes row_too row
   whole_once bytes Length p Length q row row_too = (refl, row.1 ∙ sym row_too.1)
+  whole_once bytes Length p Version q row row_too = absurd (row.2 (row_too.1 ∙ same_total k bytes row_too.0 row.0))
   whole_once bytes Length p Value q row row_too = absurd (row.2 (row_too.1 ∙ same_total k bytes row_too.0 row.0))
+  whole_once bytes Version p Length q row row_too = absurd (row_too.2 (row.1 ∙ same_total k bytes row.0 row_too.0))
+  whole_once bytes Version p Version q row row_too = (refl, one_other row.0 row_too.0 p q (one_parting k bytes row.0 row_too.0) row.2 row_too.2)
+  whole_once bytes Version p Value q row row_too = absurd (other_or_one row.0 row_too.0 p (one_parting k bytes row.0 row_too.0) row.2 row_too.2)
+  whole_once bytes Value p Version q row row_too = absurd (other_or_one row_too.0 row.0 q (one_parting k bytes row_too.0 row.0) row_too.2 row.2)
   whole_once bytes Value p Length q row row_too = absurd (row_too.2 (row.1 ∙ same_total k bytes row.0 row_too.0))
   whole_once bytes Value p Value q row row_too =
-      let inner = same_disagreement bytes row.0 row_too.0 row.2 row_too.2 row.3 row_too.3 in
-      (refl, omega (arith, row.4, row_too.4, inner, same_place bytes row.0 row_too.0))
+      let inner = same_disagreement bytes row.0 row_too.0 row.3 row_too.3 row.2 row.4 row_too.4 in
+      (refl, omega (arith, row.5, row_too.5, inner, same_place bytes row.0 row_too.0))
   whole_once bytes Magic p other q row row_too = absurd row
-  whole_once bytes Version p other q row row_too = absurd row
   whole_once bytes Cut p other q row row_too = absurd row
   whole_once bytes Length p _ q row row_too = absurd row_too
+  whole_once bytes Version p _ q row row_too = absurd row_too
   whole_once bytes Value p _ q row row_too = absurd row_too
 
   -- the parts of bytes that only the whole refuses
   parted : (why : Why) (place : ℕ) (bytes : List ℕ) → IsWholeRefusedFor why place bytes → HasParts bytes
   parted Length place bytes row = row.0
+  parted Version place bytes row = row.0
   parted Value place bytes row = row.0
   parted Extra place bytes row = stream_parts k bytes (take place bytes) (drop place bytes) row.1 (sym (take-append-drop place bytes)) row.2
   parted Magic place bytes row = absurd row
-  parted Version place bytes row = absurd row
   parted Cut place bytes row = absurd row
 
   parts_or_whole : (bytes : List ℕ) (f g : Malformed) → ArePartsRefused parts 9 f (drop 9 bytes) → IsWholeRefused g bytes → ⊥
@@ -211,10 +238,10 @@ module _ (k : LawsOfParts) where
 
   whole_stays : (why : Why) (place : ℕ) (bytes more : List ℕ) → why ≢ Extra → IsWholeRefusedFor why place bytes → IsWholeRefusedFor why place (bytes ++ more)
   whole_stays Length place bytes more not_extra row = (parts_further bytes more row.0, row.1, λ e. row.2 (sym (same_field bytes more row.0.head) ∙ e))
-  whole_stays Value place bytes more not_extra row = (parts_further bytes more row.0, same_field bytes more row.0.head ∙ row.1, row.2, row.3, row.4)
+  whole_stays Version place bytes more not_extra row = (parts_further bytes more row.0, same_field bytes more row.0.head ∙ row.1, row.2)
+  whole_stays Value place bytes more not_extra row = (parts_further bytes more row.0, same_field bytes more row.0.head ∙ row.1, row.2, row.3, row.4, row.5)
   whole_stays Extra place bytes more not_extra row = absurd (not_extra refl)
   whole_stays Magic place bytes more not_extra row = absurd row
-  whole_stays Version place bytes more not_extra row = absurd row
   whole_stays Cut place bytes more not_extra row = absurd row
 
   pub refused_stays : (bytes more : List ℕ) (fault : Malformed) → IsStreamRefused fault bytes → fault.why ≢ Cut → fault.why ≢ Extra → IsStreamRefused fault (bytes ++ more)

@@ -37,7 +37,7 @@ BlobNotRefused = (kind : Kind) (fault : Malformed) (bytes : List ℕ) → IsBlob
 -- ---- any part
 
 pub blob_few : BlobIsDecoded → (kind : Kind) (bytes : List ℕ) → IsBlob kind bytes → length bytes ≤ 3991
-blob_few exact kind bytes is = let within_limit = length_within (blob kind) 790 (Ok tt) bytes (blob_within kind) (exact kind bytes is) in omega arith
+blob_few exact kind bytes is = let within_limit = length_within (blob kind) 1942 (Ok tt) bytes (blob_within kind) (exact kind bytes is) in omega arith
 
 -- a part of so many bytes, behind those up to a place
 pub part_up_to : (part : Part) (bytes rest : List ℕ) (from count : ℕ) → rest ≡ drop from bytes → from ≤ length bytes → count < length rest → length (take count rest) ≤ 3991 → IsWhole part (take count rest)

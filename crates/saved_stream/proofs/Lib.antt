@@ -7,6 +7,7 @@ pub mod Heads
 pub mod PartLaws
 pub mod Near
 pub mod Once
+pub mod Lengths
 pub mod Passed
 pub mod Decoding
 pub mod Whole

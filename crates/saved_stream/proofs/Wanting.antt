@@ -7,7 +7,7 @@ use Rattle.std.proofs.lemmas.Bool.Decides.{nat_tests}
 use Rattle.std.proofs.lemmas.List.{length-append, length-take, length-drop, drop_at, take_all, take-append-drop, take-append-le, drop-drop, drop-take, take-take, get_or-take, get_or-drop, get_or_past}
 use Rattle.vt_base.specs.Numbers.{IsBytes}
 use Rattle.vt_base.specs.declared.grammar.Missing.{Missing}
-use Rattle.vt_base.specs.Layout.{Layout, Ends, Field, Encodes, IsOpen, IsWithin, number_then, long_then}
+use Rattle.vt_base.specs.Layout.{Layout, Ends, Field, Encodes, IsOpen, IsWithin, byte_then, number_then, long_then}
 use Rattle.vt_base.specs.Parsing.{missing, field_at, parsed}
 use Rattle.vt_base.specs.Refusing.{malformed, refuse, magic_byte_then}
 use Rattle.vt_base.specs.Magics.{magic_then}
@@ -24,8 +24,10 @@ use Rattle.device_record.specs.declared.fields.Fields.{Fields}
 use Rattle.device_record.specs.Records as records
 use Rattle.device_record.specs.Records.{flag_at, phase_at}
 use Rattle.device_record.specs.Layouts.{Ending, value_then, ends_in_zero, content_then, count_then, job_then, registers_then, length_then, version_then, record_layout}
+use Rattle.tpm_core.specs.declared.algorithm.Banks.{Banks}
+use Rattle.state_blobs.specs.Numbers.{banks_named, version_place}
 use Rattle.state_blobs.specs.Encodings.{magic_of, is_length, flag_fits, IsBlob}
-use Rattle.state_blobs.specs.Blobs.{body_then, after_magic, blob}
+use Rattle.state_blobs.specs.Blobs.{body_then, sized_then, after_version, after_magic, blob}
 use Rattle.state_blobs.specs.Blobs.{Ending as Ending_of_head}
 use Rattle.state_blobs.specs.Refusals.{length_field, IsRefused, IsRefusedFor, IsCut}
 use Rattle.saved_stream.specs.Numbers.{format_version}
@@ -38,7 +40,7 @@ use Rattle.saved_stream.specs.Headers.{may_follow, begins, is_header, parts_then
 use Rattle.saved_stream.proofs.Heads.{cut_if_open}
 use Rattle.saved_stream.proofs.Near.{idle_next, magic_byte_next, phase_next, cancel_next, granted_next}
 use Rattle.saved_stream.proofs.PartLaws.{LawsOfParts}
-use Rattle.saved_stream.proofs.Asked.{headed, begins_head}
+use Rattle.saved_stream.proofs.Asked.{take_four, some_body, is_blob_header, is_record_header, headed, begins_head}
 
 -- ---- bytes in which nothing ended
 
@@ -108,61 +110,54 @@ record IsBegun (part : Part) (bytes : List ℕ) : Type 0 where
   pub is : is_header part (take 9 bytes) ≡ true
   pub fewer : length bytes < 9 + length_field (take 9 bytes)
 
-both : (a b : Bool) → a ≡ true → b ≡ true → a && b ≡ true
-both a b p q = rw (p, q) refl
-
-take_four : (rest : List ℕ) → 4 ≤ length rest → take 4 (take 4 rest) ≡ take 4 rest
-take_four rest le = take_all 4 (take 4 rest) (omega (arith, length-take 4 rest))
-
 -- a body of a blob
 body_within : (kind : Kind) (count : ℕ) → 1 ≤ count → IsWithin (body_then kind count) count
 body_within kind count some = (some, λ field. either_within (flag_fits kind count (slice_index field 0)) (Field (count - 1) (λ _. Ends (Ok tt))) (refuse Value 9) (count - 1) (λ _. (omega arith, λ _. tt)) (λ _. tt))
-
-begins_blob : (kind : Kind) (rest : List ℕ) → begins (magic_of kind) (magic_of kind ++ format_version ∷ rest) ≡ true
-begins_blob Permanent rest = refl
-begins_blob Volatile rest = refl
-begins_blob Saved rest = refl
 
 magic_of_four : (kind : Kind) → length (magic_of kind) ≡ 4
 magic_of_four Permanent = refl
 magic_of_four Volatile = refl
 magic_of_four Saved = refl
 
-take_prefix : (kind : Kind) (rest : List ℕ) → take 9 (magic_of kind ++ format_version ∷ rest) ≡ magic_of kind ++ format_version ∷ take 4 rest
-take_prefix Permanent rest = refl
-take_prefix Volatile rest = refl
-take_prefix Saved rest = refl
+take_prefix : (kind : Kind) (version : ℕ) (rest : List ℕ) → take 9 (magic_of kind ++ version ∷ rest) ≡ magic_of kind ++ version ∷ take 4 rest
+take_prefix Permanent version rest = refl
+take_prefix Volatile version rest = refl
+take_prefix Saved version rest = refl
 
-field_of_blob : (kind : Kind) (rest : List ℕ) → length_field (magic_of kind ++ format_version ∷ rest) ≡ from_be_bytes w32 (take 4 rest)
-field_of_blob Permanent rest = refl
-field_of_blob Volatile rest = refl
-field_of_blob Saved rest = refl
+field_of_blob : (kind : Kind) (version : ℕ) (rest : List ℕ) → length_field (magic_of kind ++ version ∷ rest) ≡ from_be_bytes w32 (take 4 rest)
+field_of_blob Permanent version rest = refl
+field_of_blob Volatile version rest = refl
+field_of_blob Saved version rest = refl
 
-some_body : (kind : Kind) (count : ℕ) → is_length kind count ≡ true → 1 ≤ count
-some_body Permanent count is = grind (arith, nat_tests)
-some_body Volatile count is = grind (arith, nat_tests)
-some_body Saved count is = grind (arith, nat_tests)
+any_byte_passed : {E : Type 0} (next : ℕ → Layout E) (bytes : List ℕ) → IsOpen (byte_then next) bytes → 1 ≤ length bytes → (byte : ℕ) × (rest : List ℕ) × (bytes ≡ byte ∷ rest) × IsOpen (next byte) rest
+any_byte_passed next [] none le = absurd (omega (arith, le))
+any_byte_passed next (b ∷ rest) none le = (b, rest, refl, field_passed 1 (λ field. next (slice_index field 0)) (b ∷ rest) none le)
+
+version_passed : (kind : Kind) (named : Option Banks) (bytes : List ℕ) → IsOpen (after_version kind named) bytes → (banks : Banks) × (named ≡ Some banks) × IsOpen (number_then (sized_then kind banks)) bytes
+version_passed kind None bytes none = absurd (none (Err (malformed Version version_place)) 0 (refl, refl))
+version_passed kind (Some banks) bytes none = (banks, refl, none)
 
 open_blob : (kind : Kind) (bytes : List ℕ) → IsOpen (blob kind) bytes → 9 ≤ length bytes → IsBegun (Blob kind) bytes
 unfolding blob
 open_blob kind bytes none le =
     let four = magic_of_four kind in
     let marks = magic_passed (magic_of kind) 0 (after_magic kind) bytes none (omega (arith, le, four)) in
-    let next = number_then (λ count. cond (is_length kind count) (body_then kind count) (refuse Length 5)) in
     let long : 5 ≤ length marks.0 = omega (arith, le, four, ap length marks.1, length-append (magic_of kind) marks.0) in
-    let version = byte_passed format_version Version 4 next marks.0 marks.2 (omega (arith, long)) in
-    let rest : List ℕ = version.0 in
-    let enough : 4 ≤ length rest = omega (arith, long, ap length version.1) in
+    let first = any_byte_passed (λ (version : ℕ). after_version kind (banks_named version)) marks.0 marks.2 (omega (arith, long)) in
+    let version = version_passed kind (banks_named first.0) first.1 first.3 in
+    let banks : Banks = version.0 in
+    let rest : List ℕ = first.1 in
+    let enough : 4 ≤ length rest = omega (arith, long, ap length first.2) in
     let count : ℕ = from_be_bytes w32 (take 4 rest) in
-    let sized = field_passed 4 (λ field. cond (is_length kind (from_be_bytes w32 field)) (body_then kind (from_be_bytes w32 field)) (refuse Length 5)) rest version.2 enough in
-    let allowed = passed_if (is_length kind count) (body_then kind count) (malformed Length 5) (drop 4 rest) sized in
-    let short = fewer (body_then kind count) count (drop 4 rest) (body_within kind count (some_body kind count allowed.0)) allowed.1 in
-    let all : bytes ≡ magic_of kind ++ format_version ∷ rest = marks.1 ∙ ap (λ (t : List ℕ). magic_of kind ++ t) version.1 in
-    let prefix : take 9 bytes ≡ magic_of kind ++ format_version ∷ take 4 rest = ap (take 9) all ∙ take_prefix kind rest in
-    let field : length_field (take 9 bytes) ≡ count = ap length_field prefix ∙ field_of_blob kind (take 4 rest) ∙ ap (λ (t : List ℕ). from_be_bytes w32 t) (take_four rest enough) in
+    let sized = field_passed 4 (λ field. sized_then kind banks (from_be_bytes w32 field)) rest version.2 enough in
+    let allowed = passed_if (is_length kind banks count) (body_then kind count) (malformed Length 5) (drop 4 rest) sized in
+    let short = fewer (body_then kind count) count (drop 4 rest) (body_within kind count (some_body kind banks count allowed.0)) allowed.1 in
+    let all : bytes ≡ magic_of kind ++ first.0 ∷ rest = marks.1 ∙ ap (λ (t : List ℕ). magic_of kind ++ t) first.2 in
+    let prefix : take 9 bytes ≡ magic_of kind ++ first.0 ∷ take 4 rest = ap (take 9) all ∙ take_prefix kind first.0 rest in
+    let field : length_field (take 9 bytes) ≡ count = ap length_field prefix ∙ field_of_blob kind first.0 (take 4 rest) ∙ ap (λ (t : List ℕ). from_be_bytes w32 t) (take_four rest enough) in
     record {
-      is = both (begins (magic_of kind) (take 9 bytes)) (is_length kind (length_field (take 9 bytes))) (ap (begins (magic_of kind)) prefix ∙ begins_blob kind (take 4 rest)) (ap (is_length kind) field ∙ allowed.0);
-      fewer = omega (arith, field, short, four, ap length all, length-append (magic_of kind) (format_version ∷ rest), length-drop 4 rest, enough);
+      is = is_blob_header kind banks first.0 count (take 4 rest) (take 9 bytes) prefix version.1 field allowed.0;
+      fewer = omega (arith, field, short, four, ap length all, length-append (magic_of kind) (first.0 ∷ rest), length-drop 4 rest, enough);
     }
 
 -- ---- a record
@@ -209,7 +204,7 @@ registers_within size le = (
   )),
 )
 
-in_room : (size : ℕ) → nat_lt size 14 || nat_lt 3982 size ≡ false → (14 ≤ size) × (may_follow Record size ≡ true)
+in_room : (size : ℕ) → nat_lt size 14 || nat_lt 3982 size ≡ false → (14 ≤ size) × (may_follow Record format_version size ≡ true)
 in_room size is = (grind (arith, nat_tests), grind (arith, nat_tests))
 
 open_record : (bytes : List ℕ) → IsOpen record_layout bytes → 9 ≤ length bytes → IsBegun Record bytes
@@ -229,7 +224,7 @@ open_record bytes none le =
     let prefix : take 9 bytes ≡ records.magic ++ 1 ∷ take 4 rest = ap (take 9) all in
     let field : length_field (take 9 bytes) ≡ size = ap length_field prefix ∙ ap (λ (t : List ℕ). from_be_bytes w32 t) (take_four rest enough) in
     record {
-      is = both (begins records.magic (take 9 bytes)) (may_follow Record (length_field (take 9 bytes))) (ap (begins records.magic) prefix) (ap (may_follow Record) field ∙ room.1);
+      is = is_record_header size (take 4 rest) (take 9 bytes) prefix field room.1;
       fewer = omega (arith, field, short, ap length all, length-drop 4 rest, enough);
     }
 

@@ -8,7 +8,7 @@ use Rattle.vt_base.proofs.Numbers.{IsBytes-drop, number-from}
 use Rattle.vt_base.specs.declared.types.Kind.{Kind}
 use Rattle.vt_base.specs.declared.types.Kind.TheVariants.{Permanent, Volatile, Saved}
 use Rattle.vt_base.specs.declared.types.Why.{Why}
-use Rattle.vt_base.specs.declared.types.Why.TheVariants.{Length, Value, Cut, Extra}
+use Rattle.vt_base.specs.declared.types.Why.TheVariants.{Version, Length, Value, Cut, Extra}
 use Rattle.crb_machine.specs.Values.{DeviceValues}
 use Rattle.device_record.specs.Records.{IsRecord}
 use Rattle.tpm_core.specs.declared.parts.TpmParts.{TpmParts}
@@ -16,13 +16,13 @@ use Rattle.state_blobs.specs.declared.types.BlobFault.{BlobFault}
 use Rattle.state_blobs.specs.Gathering.{Gathering}
 use Rattle.state_blobs.specs.Encodings.{encode_blob, IsBlob}
 use Rattle.state_blobs.specs.Refusals.{length_field}
-use Rattle.state_blobs.specs.Assembly.{TellsVolatile, TellsSaved, IsAssembled, Disagrees, IsFaultFor, IsFault}
+use Rattle.state_blobs.specs.Assembly.{TellsVolatile, TellsSaved, IsAssembled, IsNoneOrOfVersion, version_in, IsFaultFor, IsFault}
 use Rattle.crb_history.specs.Snapshot.{Snapshot}
 use Rattle.saved_stream.specs.Numbers.{format_version}
 use Rattle.saved_stream.specs.declared.reading.Places.{Places}
 use Rattle.saved_stream.specs.Streams.{magic, with_head, encode_parts, encode_stream, IsStream}
-use Rattle.saved_stream.specs.Refusals.{moved, HasHead, HasParts, total, place_of_saved, IsWholeRefused, IsStreamRefused}
-use Rattle.saved_stream.specs.Places.{between, AreAt}
+use Rattle.saved_stream.specs.Refusals.{moved, HasHead, HasParts, total, place_of_volatile, place_of_saved, IsWholeRefusedFor, IsStreamRefused}
+use Rattle.saved_stream.specs.Places.{between, begin_of, AreAt}
 use Rattle.saved_stream.proofs.Passed.{split_at, length-between}
 
 -- ---- the parts
@@ -46,7 +46,7 @@ have_parts bytes at h a = record {
   is_saved = a.saved.whole;
 }
 
-pub places_fit : (bytes : List ℕ) (at : Places) (h : HasHead bytes) (a : AreAt bytes at) → (total (have_parts bytes at h a) ≡ at.end - 9) × (place_of_saved (have_parts bytes at h a) ≡ at.saved)
+pub places_fit : (bytes : List ℕ) (at : Places) (h : HasHead bytes) (a : AreAt bytes at) → (total (have_parts bytes at h a) ≡ at.end - 9) × (place_of_volatile (have_parts bytes at h a) ≡ at.volatile) × (place_of_saved (have_parts bytes at h a) ≡ at.saved)
 unfolding have_parts
 places_fit bytes at h a =
     let d = between bytes 9 at.permanent in
@@ -58,6 +58,7 @@ places_fit bytes at h a =
     let vn = length-between bytes at.volatile at.saved a.volatile.order a.volatile.within in
     let zn = length-between bytes at.saved at.end a.saved.order a.saved.within in (
       omega (arith, length-append (d ++ p ++ v) z, length-append (d ++ p) v, length-append d p, dn, pn, vn, zn, a.device.order, a.permanent.order, a.volatile.order, a.saved.order),
+      omega (arith, length-append d p, dn, pn, a.device.order, a.permanent.order),
       omega (arith, length-append (d ++ p) v, length-append d p, dn, pn, vn, a.device.order, a.permanent.order, a.volatile.order),
     )
 
@@ -122,23 +123,33 @@ pub refused_extra : (bytes : List ℕ) (at : Places) (v : DeviceValues) (tpm : T
     → IsAssembled (between bytes at.permanent at.volatile) (between bytes at.volatile at.saved) (between bytes at.saved at.end) tpm → at.end < length bytes → IsStreamRefused (malformed Extra at.end) bytes
 refused_extra bytes at v tpm fits h a same is made less = inr (inr (less, base tpm v, stream_prefix bytes at v tpm fits h a same is made))
 
--- three whole blobs are at fault only where they disagree
-pub only_disagree : (kind : Kind) (why : Why) (place : ℕ) (p v z : List ℕ) → IsBlob Permanent p → IsBlob Volatile v → IsBlob Saved z → IsFaultFor kind why place p v z → (why ≡ Value) × Disagrees place v z
-only_disagree Permanent Cut place p v z is_p is_v is_z fault = absurd (fault.1 is_p)
-only_disagree Volatile Cut place p v z is_p is_v is_z fault = absurd (fault.2.1 is_v)
-only_disagree Saved Cut place p v z is_p is_v is_z fault = absurd (fault.3.1 is_z)
-only_disagree Saved Value place p v z is_p is_v is_z fault = (refl, fault.1)
-only_disagree _ _ place p v z is_p is_v is_z fault = absurd fault
+-- a blob is of a version where it isn't left out
+of_version : (kind : Kind) (version : ℕ) (bytes : List ℕ) → IsBlob kind bytes → IsNoneOrOfVersion kind version bytes → version_in bytes ≡ version
+of_version kind version bytes is (inl none) = absurd (no_empty_blob kind bytes none is)
+of_version kind version bytes is (inr of) = of.1
 
-pub refused_value : (bytes : List ℕ) (at : Places) → HasHead bytes → AreAt bytes at → length_field bytes ≡ at.end - 9 → (blame : BlobFault)
-    → IsFault (between bytes at.permanent at.volatile) (between bytes at.volatile at.saved) (between bytes at.saved at.end) blame → IsStreamRefused (moved at.saved blame.fault) bytes
+-- three whole blobs are at fault only for their versions, or where they disagree
+pub refused_by : (kind : Kind) (why : Why) (place : ℕ) (bytes : List ℕ) (at : Places) → HasHead bytes → AreAt bytes at → length_field bytes ≡ at.end - 9
+    → IsFaultFor kind why place (between bytes at.permanent at.volatile) (between bytes at.volatile at.saved) (between bytes at.saved at.end) → IsWholeRefusedFor why (begin_of kind at + place) bytes
 unfolding have_parts
-refused_value bytes at h a same blame fault =
-    let d = only_disagree blame.kind blame.fault.why blame.fault.place _ _ _ a.permanent.whole a.volatile.whole a.saved.whole fault in
+refused_by Permanent Cut place bytes at h a same fault = absurd (fault.1 a.permanent.whole)
+refused_by Volatile Cut place bytes at h a same fault = absurd (fault.2.1 a.volatile.whole)
+refused_by Saved Cut place bytes at h a same fault = absurd (fault.3.1 a.saved.whole)
+refused_by Volatile Version place bytes at h a same fault =
     let fit = places_fit bytes at h a in
-    let value : IsWholeRefused (malformed Value (at.saved + blame.fault.place)) bytes =
-    (have_parts bytes at h a, same ∙ sym fit.0, blame.fault.place, d.1, ap (λ (n : ℕ). n + blame.fault.place) (sym fit.1)) in
-    inr (inr (subst (λ (why : Why). IsWholeRefused (malformed why (at.saved + blame.fault.place)) bytes) (sym d.0) value))
+    (have_parts bytes at h a, same ∙ sym fit.0, inl (omega (arith, fit.1, fault.0), fault.2.1))
+refused_by Saved Version place bytes at h a same fault =
+    let fit = places_fit bytes at h a in
+    let version = version_in (between bytes at.permanent at.volatile) in
+    (have_parts bytes at h a, same ∙ sym fit.0, inr (omega (arith, fit.2, fault.0), of_version Volatile version (between bytes at.volatile at.saved) a.volatile.whole fault.2, fault.3.1))
+refused_by Saved Value place bytes at h a same fault =
+    let fit = places_fit bytes at h a in
+    (have_parts bytes at h a, same ∙ sym fit.0, (fault.1.1, fault.2.1), place, fault.3, ap (λ (n : ℕ). n + place) (sym fit.2))
+refused_by _ _ place bytes at h a same fault = absurd fault
+
+pub refused_blame : (bytes : List ℕ) (at : Places) → HasHead bytes → AreAt bytes at → length_field bytes ≡ at.end - 9 → (blame : BlobFault)
+    → IsFault (between bytes at.permanent at.volatile) (between bytes at.volatile at.saved) (between bytes at.saved at.end) blame → IsStreamRefused (moved (begin_of blame.kind at) blame.fault) bytes
+refused_blame bytes at h a same blame fault = inr (inr (refused_by blame.kind blame.fault.why blame.fault.place bytes at h a same fault))
 
 -- ---- by what gathers have
 

@@ -1,5 +1,6 @@
 -- Where the parts of a stream stand. (Own definitions.)
 use Rattle.std.specs.Prelude.{◌≡◌, ℕ, ◌+◌, ◌-◌, ◌≤◌, ◌⊎◌, List, length}
+use Rattle.vt_base.specs.declared.types.Kind.{Kind}
 use Rattle.vt_base.specs.declared.types.Kind.TheVariants.{Permanent, Volatile, Saved}
 use Rattle.crb_machine.specs.Values.{held_values}
 use Rattle.crb_machine.specs.Model.{DeviceModel}
@@ -13,6 +14,12 @@ use Rattle.saved_stream.specs.Parts.{IsWhole}
 -- the bytes from one place to another
 abbrev pub between : List ℕ → ℕ → ℕ → List ℕ
 between bytes from end = slice bytes from (end - from)
+
+-- where the blob of a kind begins
+abbrev pub begin_of : Kind → Places → ℕ
+begin_of Permanent at = at.permanent
+begin_of Volatile at = at.volatile
+begin_of Saved at = at.saved
 
 -- The part stands from one place to another, at most 3991 bytes on.
 pub record IsPartAt (part : Part) (bytes : List ℕ) (from end : ℕ) : Type 0 where

@@ -10,7 +10,8 @@ use Rattle.vt_base.specs.declared.types.Why.TheVariants.{Version, Length, Value,
 use Rattle.vt_base.specs.declared.types.Malformed.{Malformed}
 use Rattle.state_blobs.specs.Blobs.{Ending}
 use Rattle.state_blobs.specs.Refusals.{length_field}
-use Rattle.state_blobs.specs.Assembly.{Disagrees}
+use Rattle.state_blobs.specs.Numbers.{version_place}
+use Rattle.state_blobs.specs.Assembly.{Disagrees, version_in}
 use Rattle.crb_history.specs.Snapshot.{Snapshot}
 use Rattle.saved_stream.specs.Numbers.{format_version}
 use Rattle.saved_stream.specs.declared.part.Part.{Part}
@@ -81,16 +82,30 @@ pub record HasParts (bytes : List ℕ) : Type 0 where
 abbrev pub total : {bytes : List ℕ} → HasParts bytes → ℕ
 total p = length (p.device ++ p.permanent ++ p.volatile ++ p.saved)
 
--- where the blob of the saved state begins
+-- where the blobs of what the TPM loses with its power and of the saved state begin
+abbrev pub place_of_volatile : {bytes : List ℕ} → HasParts bytes → ℕ
+place_of_volatile p = 9 + length (p.device ++ p.permanent)
+
 abbrev pub place_of_saved : {bytes : List ℕ} → HasParts bytes → ℕ
 place_of_saved p = 9 + length (p.device ++ p.permanent ++ p.volatile)
 
--- Each row says that those before it don't hold: the length isn't that of the parts; the TPM is started and the saved
--- state isn't that of its registers; bytes stand behind a stream.
+-- The first blob that isn't of the permanent one's version has its version at this place.
+abbrev pub OtherVersionAt : {bytes : List ℕ} → ℕ → HasParts bytes → Type 0
+OtherVersionAt place p =
+    ((place ≡ place_of_volatile p + version_place) × (version_in p.volatile ≢ version_in p.permanent))
+    ⊎ ((place ≡ place_of_saved p + version_place) × (version_in p.volatile ≡ version_in p.permanent) × (version_in p.saved ≢ version_in p.permanent))
+
+-- all blobs are of one version
+abbrev pub AreOfOneVersion : {bytes : List ℕ} → HasParts bytes → Type 0
+AreOfOneVersion p = (version_in p.volatile ≡ version_in p.permanent) × (version_in p.saved ≡ version_in p.permanent)
+
+-- Each row says that those before it don't hold: the length isn't that of the parts; the blobs aren't of one version; the TPM
+-- is started and the saved state isn't that of its registers; bytes stand behind a stream.
 abbrev pub IsWholeRefusedFor : Why → ℕ → List ℕ → Type 0
 IsWholeRefusedFor Length place bytes = (p : HasParts bytes) × (place ≡ 5) × (length_field bytes ≢ total p)
+IsWholeRefusedFor Version place bytes = (p : HasParts bytes) × (length_field bytes ≡ total p) × OtherVersionAt place p
 IsWholeRefusedFor Value place bytes =
-    (p : HasParts bytes) × (length_field bytes ≡ total p) × (inner : ℕ) × Disagrees inner p.volatile p.saved × (place ≡ place_of_saved p + inner)
+    (p : HasParts bytes) × (length_field bytes ≡ total p) × AreOfOneVersion p × (inner : ℕ) × Disagrees inner p.volatile p.saved × (place ≡ place_of_saved p + inner)
 IsWholeRefusedFor Extra place bytes = (place < length bytes) × (b : Snapshot) × IsStream (take place bytes) b
 IsWholeRefusedFor why place bytes = ⊥
 

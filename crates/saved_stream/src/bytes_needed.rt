@@ -61,10 +61,10 @@ fn is_header(part: Part, header: &[u8]) -> bool
     requires { length header.now ≡ 9 }
     ensures { result ≡ is_header part header.now }
 {
-    begins(header, part.magic()) && part.may_have(length_in(header))
+    header.starts_with(&part.magic()) && part.may_have(header[MAGIC_SIZE], length_in(header))
 }
 
-/// Whether a header begins with this magic and the version.
+/// Whether a head begins with this magic and the version of streams.
 fn begins(header: &[u8], magic: [u8; MAGIC_SIZE]) -> bool
     requires { length header.now ≡ 9 }
     ensures { result ≡ begins magic header.now }

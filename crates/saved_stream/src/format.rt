@@ -6,7 +6,8 @@ pub const MAGIC: [u8; 4] = *b"CRBS";
 /// How many bytes a magic has.
 pub const MAGIC_SIZE: usize = 4;
 
-/// The version that stands behind each magic.
+/// The version of a stream, which stands behind its magic. That of a record is the same; that of a blob says which banks its
+/// TPM has.
 pub const VERSION: u8 = 1;
 
 /// Where the version stands.

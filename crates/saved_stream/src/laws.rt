@@ -42,11 +42,24 @@ pub fn decoding_is_unique()
     state_blobs::laws::tpms_are_assembled_once();
 }
 
+/// How many bytes a stream has: the least are those of a host after a reset, the most those of a device with a full buffer
+/// over a started TPM with two banks and a saved state.
+pub fn streams_have_a_length()
+    ensures least { (bytes : List ℕ) (b : Snapshot) → IsStream bytes b → 101 ≤ length bytes }
+    ensures most { (bytes : List ℕ) (b : Snapshot) → IsStream bytes b → length bytes ≤ 7285 }
+{
+    device_record::laws::records_have_a_length();
+    state_blobs::laws::blobs_have_a_length();
+}
+
 /// A reader that takes no more than is wanted, until nothing is or the input ends, has what it needs to tell a stream from
 /// bytes that begin with none.
 pub fn wanted_bytes_are_enough()
     ensures start { EndsNoStream [] }
     ensures more { (bytes more : List ℕ) → EndsNoStream bytes → length more ≤ wanted_after bytes → EndsNoStream (bytes ++ more) }
+
+    // It takes at most so many bytes.
+    ensures few { (bytes : List ℕ) → 0 < wanted_after bytes → length bytes + wanted_after bytes ≤ 15973 }
 
     // What is refused of the bytes is refused of the whole input.
     ensures refused { (bytes rest : List ℕ) (fault : Malformed) → IsBytes bytes → EndsNoStream bytes → (wanted_after bytes ≡ 0) ⊎ (rest ≡ [])

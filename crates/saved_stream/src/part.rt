@@ -3,6 +3,7 @@
 ghost use Rattle.std.specs.Prelude.{◌≡◌};
 ghost use Rattle.saved_stream.specs.Headers.{part_magic, may_follow};
 
+use crate::format::VERSION;
 use device_record::{LARGEST_LENGTH, SMALLEST_LENGTH};
 use vt_base::Kind;
 
@@ -26,13 +27,18 @@ impl Part {
         }
     }
 
-    /// Whether so many bytes may follow its header.
-    pub fn may_have(self, count: u32) -> bool
-        ensures { result ≡ may_follow self count }
+    /// Whether so many bytes may follow its header, if that has this version.
+    pub fn may_have(self, version: u8, count: u32) -> bool
+        ensures { result ≡ may_follow self version count }
     {
         match self {
-            Part::Record => SMALLEST_LENGTH <= count && count <= LARGEST_LENGTH,
-            Part::Blob(kind) => state_blobs::is_length(kind, count),
+            Part::Record => {
+                version == VERSION && SMALLEST_LENGTH <= count && count <= LARGEST_LENGTH
+            }
+            Part::Blob(kind) => match state_blobs::banks_named(version) {
+                Some(banks) => state_blobs::is_length(kind, banks, count),
+                None => false,
+            },
         }
     }
 }

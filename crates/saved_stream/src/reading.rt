@@ -60,6 +60,21 @@ pub struct Places {
     pub end: usize,
 }
 
+impl Places {
+    ghost use Rattle.saved_stream.specs.Places.{begin_of};
+
+    /// Where the blob of a kind begins.
+    fn begin_of(&self, kind: Kind) -> usize
+        ensures { result ≡ begin_of kind self.now }
+    {
+        match kind {
+            Kind::Permanent => self.permanent,
+            Kind::Volatile => self.volatile,
+            Kind::Saved => self.saved,
+        }
+    }
+}
+
 fn read_whole<P: Port>(
     bytes: &[u8],
     device: &mut Device<P>,
@@ -90,7 +105,7 @@ fn read_whole<P: Port>(
     }
     let tpm = match assemble(permanent, volatile, saved) {
         Ok(tpm) => tpm,
-        Err(blame) => return Err(moved(at.saved, blame.fault)),
+        Err(blame) => return Err(moved(at.begin_of(blame.kind), blame.fault)),
     };
     if at.end < bytes.len() {
         return Err(Malformed {
@@ -200,7 +215,7 @@ fn blob_in(bytes: &[u8], from: usize, gather: &mut Gather) -> Result<usize, Malf
 /// The bytes end before the blob does.
 fn cut_behind(gather: &Gather) -> Malformed
     ensures fault { result ≡ malformed Cut (length gather.now.begun) }
-    ensures within_limit { result.place ≤ 790 }
+    ensures within_limit { result.place ≤ 1942 }
 {
     Malformed {
         why: Why::Cut,

@@ -1,56 +1,87 @@
 -- A TPM put together from three blobs.
-use Rattle.std.proofs.Common.{◌≡◌, ℕ, ◌+◌, ◌≤◌, Bool, true, false, cond, eqb, List, [], ◌∷◌, ◌++◌, length, take, drop, get_or, replicate, Option, Some, None, refl, sym, ap, subst, ◌∙◌, arith, inl, inr}
-use Rattle.std.specs.Prelude.{IfSome, IfNone, IsSome, is_some}
-use Rattle.std.specs.List.{concat}
-use Rattle.std.proofs.lemmas.List.{length-append, length-take, length-drop, get_or-append-add, get_or-drop}
+use Rattle.std.proofs.Common.{◌≡◌, ℕ, ◌+◌, ◌≤◌, Bool, true, false, cond, eqb, List, [], ◌∷◌, ◌++◌, length, take, drop, get_or, Option, Some, None, refl, sym, ap, subst, ◌∙◌, arith, inl, inr}
+use Rattle.std.specs.Prelude.{IfSome, IsSome, is_some}
+use Rattle.std.proofs.lemmas.List.{length-append, length-take, length-drop, get_or-append-add, get_or-drop, drop-drop, take-take}
 use Rattle.std.proofs.Math.Seq.{take-add, take-append-add}
-use Rattle.vt_base.specs.Numbers.{number}
+use Rattle.vt_base.specs.Numbers.{long}
 use Rattle.vt_base.specs.declared.types.Kind.{Kind}
 use Rattle.vt_base.specs.declared.types.Kind.TheVariants.{Permanent, Volatile, Saved}
-use Rattle.tpm_core.specs.declared.algorithm.Algorithm.TheVariants.{Sha256}
+use Rattle.tpm_core.specs.declared.algorithm.Algorithm.{Algorithm}
+use Rattle.tpm_core.specs.declared.algorithm.Algorithm.TheVariants.{Sha256, Sha384}
+use Rattle.tpm_core.specs.declared.algorithm.Banks.{Banks}
 use Rattle.tpm_core.specs.declared.parts.SavedParts.{SavedParts}
 use Rattle.tpm_core.specs.declared.parts.TpmParts.{TpmParts}
-use Rattle.tpm_core.specs.Banks.{blank_bank}
-use Rattle.tpm_core.specs.Fresh.{manufactured}
+use Rattle.tpm_core.specs.Algorithms.{has_bank}
+use Rattle.tpm_core.specs.Banks.{blank_bank, bank_of, kept_bank_of, MissingAreBlankInState}
 use Rattle.tpm_core.specs.Answers.{kept}
 use Rattle.tpm_core.specs.Steps.{IsValid, IsKept, IsConsistent}
+use Rattle.state_blobs.specs.declared.body_fields.Fields.{Fields}
 use Rattle.state_blobs.specs.declared.read.Running.{Running}
-use Rattle.state_blobs.specs.Encodings.{header_of, with_header, counted, saved_body, encode_blob, slice, IsBlob}
+use Rattle.state_blobs.specs.Numbers.{version_of, saved_length}
+use Rattle.state_blobs.specs.Encodings.{header_of, with_header, counted, saved_body, encode_blob, IsBlob}
+use Rattle.state_blobs.specs.Partial.{bank_in, kept_in, AreValid}
 use Rattle.state_blobs.specs.Refusals.{FirstDiffersAt}
-use Rattle.state_blobs.specs.Assembly.{TellsVolatile, TellsSaved, IsNoneOrBlob, IsAssembled, Disagrees}
+use Rattle.state_blobs.specs.Assembly.{TellsVolatile, TellsSaved, IsNoneOrBlob, IsOfVersion, IsNoneOrOfVersion, IsAssembled, Disagrees, version_in}
 use Rattle.state_blobs.specs.Reading.{running_in, parts_with}
-use Rattle.state_blobs.proofs.Registers.{AreRegisters-take, concat-take}
-use Rattle.state_blobs.proofs.Bodies.{pcr_are_registers, kept_are_registers, length-counted, length-kept, fit_stopped}
-use Rattle.state_blobs.proofs.Fields.{counted_same, same_state, started_read, saved_read, no_state_read, counted_in_volatile, counted_in_saved}
+use Rattle.state_blobs.proofs.Widths.{by_algorithm, in_each, banks_are, kept_are, AreBanks-take, counted_alike, counted_same, kept_of_blank}
+use Rattle.state_blobs.proofs.Bodies.{saved_width, length-kept, stopped_with, zero_seed, fit_stopped}
+use Rattle.state_blobs.proofs.Fields.{decoded_running, decoded_saved, saved_size, same_state, started_read, saved_read, no_state_read, version_encoded, banks_read, state_read}
+use Rattle.state_blobs.proofs.Values.{IsRead, counted_are, running_fields, saved_fields}
 
 -- the values of one, what a second has while it runs, and the saved state of a third
 abbrev joined : TpmParts → TpmParts → TpmParts → TpmParts
-joined a b c = record { seed = a.seed; boots = a.boots; draws = b.draws; started = b.started; pcr = b.pcr; counter = b.counter; saved = c.saved }
+joined a b c = record { seed = a.seed; banks = a.banks; boots = a.boots; draws = b.draws; started = b.started; pcr = b.pcr; pcr384 = b.pcr384; counter = b.counter; saved = c.saved }
 
-joined_running : (b : TpmParts) (seed : List ℕ) (boots : ℕ) (saved : Option SavedParts) → IsValid b → (on : Bool) → b.started ≡ on
-    → parts_with seed boots (cond on (Some (record { draws = b.draws; counter = b.counter; pcr = b.pcr })) None) saved
-    ≡ record { seed = seed; boots = boots; draws = b.draws; started = on; pcr = b.pcr; counter = b.counter; saved = saved }
-joined_running b seed boots saved fit true on = refl
-joined_running b seed boots saved fit false off =
+joined_bank : (a b c : TpmParts) (x : Algorithm) → bank_of x (joined a b c) ≡ bank_of x b
+joined_bank a b c = by_algorithm (λ x. bank_of x (joined a b c) ≡ bank_of x b) refl refl
+
+joined_running : (b : TpmParts) (seed : List ℕ) (banks : Banks) (boots : ℕ) (saved : Option SavedParts) → IsValid b → (on : Bool) → b.started ≡ on
+    → parts_with seed banks boots (cond on (Some (record { draws = b.draws; counter = b.counter; pcr = b.pcr; pcr384 = b.pcr384 })) None) saved
+    ≡ record { seed = seed; banks = banks; boots = boots; draws = b.draws; started = on; pcr = b.pcr; pcr384 = b.pcr384; counter = b.counter; saved = saved }
+joined_running b seed banks boots saved fit true on = refl
+joined_running b seed banks boots saved fit false off =
     let s = fit.stopped off in
-    sym (ap (λ (x : ℕ). let v : TpmParts = record { seed = seed; boots = boots; draws = x; started = false; pcr = b.pcr; counter = b.counter; saved = saved } in v) s.draws
-    ∙ ap (λ (x : List (List ℕ)). let v : TpmParts = record { seed = seed; boots = boots; draws = 0; started = false; pcr = x; counter = b.counter; saved = saved } in v) s.pcr
-    ∙ ap (λ (x : ℕ). let v : TpmParts = record { seed = seed; boots = boots; draws = 0; started = false; pcr = blank_bank Sha256; counter = x; saved = saved } in v) s.counter)
+    let v : TpmParts = record { seed = seed; banks = banks; boots = boots; draws = b.draws; started = false; pcr = b.pcr; pcr384 = b.pcr384; counter = b.counter; saved = saved } in
+    sym (ap (λ (x : ℕ). record v { draws = x }) s.draws
+    ∙ ap (λ (x : List (List ℕ)). record v { draws = 0; pcr = x }) (s.blank Sha256)
+    ∙ ap (λ (x : List (List ℕ)). record v { draws = 0; pcr = blank_bank Sha256; pcr384 = x }) (s.blank Sha384)
+    ∙ ap (λ (x : ℕ). record v { draws = 0; pcr = blank_bank Sha256; pcr384 = blank_bank Sha384; counter = x }) s.counter)
 
-pub parts_are : (a b c : TpmParts) (seed : List ℕ) (boots : ℕ) (running : Option Running) (saved : Option SavedParts) → IsValid b → seed ≡ a.seed → boots ≡ a.boots → running ≡ running_in b → saved ≡ c.saved
-    → parts_with seed boots running saved ≡ joined a b c
-parts_are a b c seed boots running saved fit p q r s = rw (p, q, r, s) (joined_running b a.seed a.boots c.saved fit b.started refl)
+pub parts_are : (a b c : TpmParts) (seed : List ℕ) (banks : Banks) (boots : ℕ) (running : Option Running) (saved : Option SavedParts) → IsValid b → seed ≡ a.seed → banks ≡ a.banks → boots ≡ a.boots → running ≡ running_in b
+    → saved ≡ c.saved → parts_with seed banks boots running saved ≡ joined a b c
+parts_are a b c seed banks boots running saved fit p q r s t = rw (p, q, r, s, t) (joined_running b a.seed a.banks a.boots c.saved fit b.started refl)
 
-pub joined_is_consistent : (a b c : TpmParts) → IsValid b → (b.started ≡ true → IfSome c.saved (λ state. state ≡ kept b)) → IsConsistent (joined a b c)
-joined_is_consistent a b c fit agrees = record {
-  stopped = λ off. record { draws = (fit.stopped off).draws; counter = (fit.stopped off).counter; pcr = (fit.stopped off).pcr };
+pub joined_is_consistent : (a b c : TpmParts) → IsValid b → IsValid c → b.banks ≡ a.banks → c.banks ≡ a.banks → (b.started ≡ true → IfSome c.saved (λ state. state ≡ kept b)) → IsConsistent (joined a b c)
+joined_is_consistent a b c fit fit_too same same_too agrees = record {
+  missing = λ x none. joined_bank a b c x ∙ fit.missing x (ap (λ (banks : Banks). has_bank banks x) same ∙ none);
+  kept_missing = subst (λ (banks : Banks). IfSome c.saved (MissingAreBlankInState banks)) same_too fit_too.kept_missing;
+  stopped = λ off. record { draws = (fit.stopped off).draws; counter = (fit.stopped off).counter; blank = λ x. joined_bank a b c x ∙ (fit.stopped off).blank x };
   kept_agrees = λ on. agrees on;
 }
 
-pub joined_is_assembled : (permanent volatile saved : List ℕ) (a b c : TpmParts) → IsValid (joined a b c) → permanent ≡ encode_blob Permanent a → TellsVolatile volatile b → TellsSaved saved c
-    → IsAssembled permanent volatile saved (joined a b c)
+-- the blobs of values that have the same banks
+volatile_alike : (a b c : TpmParts) → b.banks ≡ a.banks → encode_blob Volatile b ≡ encode_blob Volatile (joined a b c)
 unfolding encode_blob
-joined_is_assembled permanent volatile saved a b c fit p v z = record { fit = fit; is_permanent = p; is_volatile = v; is_saved = z }
+volatile_alike a b c same =
+    ap (λ (banks : Banks). with_header Volatile banks (cond b.started ((1 ∷ long b.draws) ++ counted banks b.counter (λ x. bank_of x b)) (0 ∷ []))) same
+    ∙ ap (λ (bytes : List ℕ). with_header Volatile a.banks (cond b.started ((1 ∷ long b.draws) ++ bytes) (0 ∷ [])))
+    (sym (counted_alike a.banks b.counter (λ x. bank_of x (joined a b c)) (λ x. bank_of x b) (λ x there. joined_bank a b c x)))
+
+saved_alike : (a b c : TpmParts) → c.banks ≡ a.banks → encode_blob Saved c ≡ encode_blob Saved (joined a b c)
+unfolding encode_blob
+saved_alike a b c same = ap (λ (banks : Banks). with_header Saved banks (saved_body banks c.saved)) same
+
+tells_volatile : (a b c : TpmParts) (bytes : List ℕ) → b.banks ≡ a.banks → TellsVolatile bytes b → TellsVolatile bytes (joined a b c)
+tells_volatile a b c bytes same (inl is) = inl (is ∙ volatile_alike a b c same)
+tells_volatile a b c bytes same (inr (none, off)) = inr (none, off)
+
+tells_saved : (a b c : TpmParts) (bytes : List ℕ) → c.banks ≡ a.banks → TellsSaved bytes c → TellsSaved bytes (joined a b c)
+tells_saved a b c bytes same (inl is) = inl (is ∙ saved_alike a b c same)
+tells_saved a b c bytes same (inr (none, gone)) = inr (none, gone)
+
+permanent_alike : (a b c : TpmParts) → encode_blob Permanent a ≡ encode_blob Permanent (joined a b c)
+unfolding encode_blob
+permanent_alike a b c = refl
 
 -- ---- the saved state against the registers
 
@@ -66,126 +97,204 @@ differs_behind n i bytes wanted le first =
       differs = λ e. first.differs (get_or-drop n bytes i 0 ∙ e ∙ ap (λ (k : ℕ). get_or (take n bytes ++ wanted) (k + i) 0) (sym size) ∙ get_or-append-add (take n bytes) wanted i 0);
     }
 
--- the part of a started TPM's blob that a saved state repeats
-kept_slice : (v : TpmParts) (bytes : List ℕ) → IsValid v → TellsVolatile bytes v → v.started ≡ true → slice bytes 18 516 ≡ counted v.counter (take 16 v.pcr)
-kept_slice v bytes fit exact on =
-    ap (take 516) (counted_in_volatile v bytes exact on)
-    ∙ take-append-add (number v.counter) (concat v.pcr) 512
-    ∙ ap (λ (rest : List ℕ). number v.counter ++ rest) (sym (concat-take 32 16 v.pcr (pcr_are_registers v fit)))
+-- what a shutdown of a started TPM would keep
+kept_now : (v : TpmParts) (a : Algorithm) → kept_bank_of a (kept v) ≡ take 16 (bank_of a v)
+kept_now v = by_algorithm (λ a. kept_bank_of a (kept v) ≡ take 16 (bank_of a v)) refl refl
 
-length-kept_pcr : (v : TpmParts) → IsValid v → length (take 16 v.pcr) ≡ 16
-length-kept_pcr v fit = omega (arith, length-take 16 v.pcr, fit.registers Sha256)
+-- the fields of its volatile blob
+pub kept_running : (kind : Kind) (f : Fields) (bytes : List ℕ) (v : TpmParts) → kind ≡ Volatile → AreValid f → IsRead kind f bytes → IsValid v → TellsVolatile bytes v → v.started ≡ true
+    → kept_in v.banks f ≡ counted v.banks v.counter (λ a. kept_bank_of a (kept v))
+kept_running kind f bytes v same valid read fit exact on =
+    let are = running_fields kind f bytes v same valid read fit exact on in
+    let first : (a : Algorithm) → has_bank v.banks a ≡ true → take 16 (bank_in a f) ≡ kept_bank_of a (kept v) =
+    λ a there. sym (take-take 16 24 (bank_in a f) (omega arith)) ∙ ap (take 16) (are.registers a there) ∙ sym (kept_now v a) in
+    counted_are v.banks 16 f v.counter (λ a. kept_bank_of a (kept v)) (record { counter_is = are.counter_is; registers = first })
 
-agrees_with : (v z : TpmParts) (state : Option SavedParts) (volatile saved : List ℕ) → IsValid v → TellsVolatile volatile v → v.started ≡ true → TellsSaved saved z → z.saved ≡ state → IfSome state IsKept
-    → drop 10 saved ≡ slice volatile 18 516 → IfSome state (λ state. state ≡ kept v)
-agrees_with v z None volatile saved fit exact on decoded_too is are same = tt
-agrees_with v z (Some state) volatile saved fit exact on decoded_too is are same =
-    let both = counted_same state.counter v.counter state.pcr (take 16 v.pcr) are.counter fit.counter (kept_are_registers state are) (AreRegisters-take 32 16 v.pcr (pcr_are_registers v fit))
-    (are.registers Sha256 ∙ sym (length-kept_pcr v fit)) (sym (counted_in_saved z state saved decoded_too is) ∙ same ∙ kept_slice v volatile fit exact on) in
-    same_state state (kept v) both.0 both.1
+-- those of the blob of a saved state
+pub kept_saved : (kind : Kind) (f : Fields) (bytes : List ℕ) (v : TpmParts) (state : SavedParts) → kind ≡ Saved → AreValid f → IsRead kind f bytes → IsValid v → TellsSaved bytes v → v.saved ≡ Some state → IsKept state
+    → kept_in v.banks f ≡ counted v.banks state.counter (λ a. kept_bank_of a state)
+kept_saved kind f bytes v state same valid read fit exact is kept =
+    counted_are v.banks 16 f state.counter (λ a. kept_bank_of a state) (saved_fields kind f bytes v state same valid read fit exact is kept)
 
-pub agrees : (v z : TpmParts) (volatile saved : List ℕ) → drop 10 saved ≡ slice volatile 18 516 → IsValid v → TellsVolatile volatile v → IsValid z → TellsSaved saved z → v.started ≡ true
-    → IfSome z.saved (λ state. state ≡ kept v)
-agrees v z volatile saved same fit exact fit_too decoded_too on = agrees_with v z z.saved volatile saved fit exact on decoded_too refl fit_too.kept_fits same
+-- what a shutdown keeps of fit values can be kept
+kept_fits : (v : TpmParts) → IsValid v → IsKept (kept v)
+kept_fits v fit =
+    let first = AreBanks-take 16 24 (λ a. bank_of a v) (omega arith) (banks_are v fit) in
+    record {
+      counter = fit.counter;
+      registers = λ a. ap length (kept_now v a) ∙ first.count a;
+      width = λ a i lt. ap (λ (values : List (List ℕ)). length (get_or values i [])) (kept_now v a) ∙ first.size a i (omega (arith, lt, first.count a));
+    }
 
-pub none_agrees : (v z : TpmParts) (saved : List ℕ) → eqb (get_or saved 9 0) 1 ≡ false → TellsSaved saved z → IfSome z.saved (λ state. state ≡ kept v)
-none_agrees v z saved flag exact = subst (λ (state : Option SavedParts). IfSome state (λ state. state ≡ kept v)) (sym (no_state_read z saved exact flag)) tt
+-- a state whose bytes are those of now is that of now
+state_agrees : (v : TpmParts) (state : SavedParts) (own : Banks) → IsValid v → IsKept state → own ≡ v.banks → MissingAreBlankInState own state
+    → counted v.banks state.counter (λ a. kept_bank_of a state) ≡ counted v.banks v.counter (λ a. kept_bank_of a (kept v)) → state ≡ kept v
+state_agrees v state own fit are same blank bytes =
+    let both = counted_same v.banks state.counter v.counter 16 (λ a. kept_bank_of a state) (λ a. kept_bank_of a (kept v)) are.counter fit.counter (kept_are state are) (kept_are (kept v) (kept_fits v fit)) bytes in
+    same_state state (kept v) both.0
+    (in_each v.banks (λ a. kept_bank_of a state ≡ kept_bank_of a (kept v)) both.1
+    (λ a missing. blank a (ap (λ (banks : Banks). has_bank banks a) same ∙ missing) ∙ sym (kept_now v a ∙ ap (take 16) (fit.missing a missing) ∙ kept_of_blank a)))
 
--- a flag of 1 is that of a blob
-blob_there : (kind : Kind) (bytes : List ℕ) → IsNoneOrBlob kind bytes → eqb (get_or bytes 9 0) 1 ≡ true → IsBlob kind bytes
-blob_there kind bytes (inl none) on = let off : eqb (get_or bytes 9 0) 1 ≡ false = ap (λ (b : List ℕ). eqb (get_or b 9 0) 1) none in absurd cc
-blob_there kind bytes (inr is) on = is
+-- ---- the blob that a saved state has
+
+some_text : (z : TpmParts) (state : SavedParts) → z.saved ≡ Some state → encode_blob Saved z ≡ with_header Saved z.banks (1 ∷ counted z.banks state.counter (λ a. kept_bank_of a state))
+unfolding encode_blob
+some_text z state is = ap (λ (saved : Option SavedParts). with_header Saved z.banks (saved_body z.banks saved)) is
+
+header_read : (z : TpmParts) (state : SavedParts) (bytes : List ℕ) → bytes ≡ encode_blob Saved z → z.saved ≡ Some state → IsKept state → take 10 bytes ≡ header_of Saved z.banks (saved_length z.banks) ++ 1 ∷ []
+header_read z state bytes is there fits = ap (take 10) (is ∙ some_text z state there) ∙ ap (λ (n : ℕ). header_of Saved z.banks n ++ 1 ∷ []) (length-kept z.banks state fits)
+
+agreeing_text : (v : TpmParts) → IsValid v → encode_blob Saved (record v { saved = Some (kept v) }) ≡ (header_of Saved v.banks (saved_length v.banks) ++ 1 ∷ []) ++ counted v.banks v.counter (λ a. kept_bank_of a (kept v))
+unfolding encode_blob
+agreeing_text v fit = ap (λ (n : ℕ). (header_of Saved v.banks n ++ 1 ∷ []) ++ counted v.banks v.counter (λ a. kept_bank_of a (kept v))) (length-kept v.banks (kept v) (kept_fits v fit))
 
 is_there : (saved : Option SavedParts) → is_some saved ≡ true → IsSome saved
 is_there None e = absurd cc
 is_there (Some state) e = refl
 
--- the blob that the saved state would have
-header_and_flag : (saved : Option SavedParts) → IfSome saved IsKept → is_some saved ≡ true → take 10 (with_header Saved (saved_body saved)) ≡ header_of Saved 517 ++ 1 ∷ []
-header_and_flag None kept there = absurd cc
-header_and_flag (Some state) kept there = ap (λ (n : ℕ). header_of Saved n ++ 1 ∷ []) (length-kept state kept)
+-- ---- the fields of two blobs
 
-header_read : (z : TpmParts) (bytes : List ℕ) → IsValid z → bytes ≡ encode_blob Saved z → is_some z.saved ≡ true → take 10 bytes ≡ header_of Saved 517 ++ 1 ∷ []
-unfolding encode_blob
-header_read z bytes fit is there = ap (take 10) is ∙ header_and_flag z.saved fit.kept_fits there
+-- the fields of two blobs of a version
+pub record AreFields (banks : Banks) (volatile saved : List ℕ) (running state : Fields) : Type 0 where
+  pub running_valid : AreValid running
+  pub running_read : IsRead Volatile running volatile
+  pub running_version : version_in volatile ≡ version_of banks
+  pub state_valid : AreValid state
+  pub state_read : IsRead Saved state saved
+  pub state_version : version_in saved ≡ version_of banks
 
-agreeing_text : (v : TpmParts) → IsValid v → encode_blob Saved (record v { saved = Some (kept v) }) ≡ header_of Saved 517 ++ 1 ∷ [] ++ counted v.counter (take 16 v.pcr)
-unfolding encode_blob
-agreeing_text v fit =
-    let size : length (saved_body (Some (kept v))) ≡ 517 = omega (arith, length-counted v.counter (take 16 v.pcr) (AreRegisters-take 32 16 v.pcr (pcr_are_registers v fit)), length-kept_pcr v fit) in
-    ap (λ (n : ℕ). header_of Saved n ++ 1 ∷ [] ++ counted v.counter (take 16 v.pcr)) size
+module _ (banks : Banks) (volatile saved : List ℕ) (f g : Fields) (are : AreFields banks volatile saved f g) where
+  -- the fields of the running TPM, by its values
+  running_in_banks : (v : TpmParts) → IsValid v → volatile ≡ encode_blob Volatile v → v.started ≡ true → (v.banks ≡ banks) × (kept_in banks f ≡ counted banks v.counter (λ a. kept_bank_of a (kept v)))
+  running_in_banks v fit is on =
+      let same : v.banks ≡ banks = sym (banks_read Volatile v volatile banks is are.running_version) in (
+        same,
+        subst (λ (b : Banks). kept_in b f ≡ counted b v.counter (λ a. kept_bank_of a (kept v))) same (kept_running Volatile f volatile v refl are.running_valid are.running_read fit (inl is) on),
+      )
 
-pub disagrees : (place : ℕ) (volatile saved : List ℕ) → IsNoneOrBlob Volatile volatile → IsNoneOrBlob Saved saved → eqb (get_or volatile 9 0) 1 ≡ true → eqb (get_or saved 9 0) 1 ≡ true
-    → FirstDiffersAt place saved (take 10 saved ++ slice volatile 18 516) → Disagrees place volatile saved
-disagrees place volatile saved v_there z_there on there first =
-    let v = blob_there Volatile volatile v_there on in
-    let z = blob_there Saved saved z_there there in
-    let started : v.values.started ≡ true = sym (started_read v.values volatile (inl v.spelled)) ∙ on in
-    let some : is_some z.values.saved ≡ true = sym (saved_read z.values saved (inl z.spelled)) ∙ there in
-    let wanted : take 10 saved ++ slice volatile 18 516 ≡ encode_blob Saved (record v.values { saved = Some (kept v.values) }) =
-    ap (λ (prefix : List ℕ). prefix ++ slice volatile 18 516) (header_read z.values saved z.fit z.spelled some)
-    ∙ ap (λ (rest : List ℕ). header_of Saved 517 ++ 1 ∷ [] ++ rest) (kept_slice v.values volatile v.fit (inl v.spelled) started)
-    ∙ sym (agreeing_text v.values v.fit) in
-    record {
-      running = v.values;
-      is_fit = v.fit;
-      is_started = started;
-      is_volatile = v.spelled;
-      saving = z.values;
-      is_fit_too = z.fit;
-      is_there = is_there z.values.saved some;
-      is_saved = z.spelled;
-      first = subst (FirstDiffersAt place saved) wanted first;
-    }
+  saved_in_banks : (z : TpmParts) (state : SavedParts) → IsValid z → saved ≡ encode_blob Saved z → z.saved ≡ Some state → IsKept state
+      → (z.banks ≡ banks) × (kept_in banks g ≡ counted banks state.counter (λ a. kept_bank_of a state))
+  saved_in_banks z state fit is there kept =
+      let same : z.banks ≡ banks = sym (banks_read Saved z saved banks is are.state_version) in (
+        same,
+        subst (λ (b : Banks). kept_in b g ≡ counted b state.counter (λ a. kept_bank_of a state)) same (kept_saved Saved g saved z state refl are.state_valid are.state_read fit (inl is) there kept),
+      )
+
+  agrees_with : (v z : TpmParts) (state : Option SavedParts) → kept_in banks g ≡ kept_in banks f → IsValid v → TellsVolatile volatile v → IsValid z → TellsSaved saved z → v.started ≡ true → z.saved ≡ state
+      → IfSome state IsKept → IfSome state (MissingAreBlankInState z.banks) → IfSome state (λ state. state ≡ kept v)
+  agrees_with v z None same fit exact fit_too exact_too on is fits blank = tt
+  agrees_with v z (Some state) same fit exact fit_too exact_too on is fits blank =
+      let there : is_some z.saved ≡ true = ap (λ (s : Option SavedParts). is_some s) is in
+      let running = running_in_banks v fit (decoded_running v volatile exact on) on in
+      let kept_too = saved_in_banks z state fit_too (decoded_saved z saved exact_too there) is fits in
+      state_agrees v state z.banks fit fits (kept_too.0 ∙ sym running.0) blank
+      (subst (λ (b : Banks). counted b state.counter (λ a. kept_bank_of a state) ≡ counted b v.counter (λ a. kept_bank_of a (kept v))) (sym running.0) (sym kept_too.1 ∙ same ∙ running.1))
+
+  pub fields_agree : kept_in banks g ≡ kept_in banks f → (v z : TpmParts) → IsValid v → TellsVolatile volatile v → IsValid z → TellsSaved saved z → v.started ≡ true → IfSome z.saved (λ state. state ≡ kept v)
+  fields_agree same v z fit exact fit_too exact_too on = agrees_with v z z.saved same fit exact fit_too exact_too on refl fit_too.kept_fits fit_too.kept_missing
+
+  -- where they differ
+  saved_text : (z : TpmParts) (state : SavedParts) → IsValid z → saved ≡ encode_blob Saved z → z.saved ≡ Some state → drop 10 saved ≡ counted z.banks state.counter (λ a. kept_bank_of a state)
+  saved_text z state fit is there = sym (drop-drop 1 9 saved) ∙ ap (drop 1) (state_read z state saved (inl is) there)
+
+  disagrees_with : (i : ℕ) (v z : TpmParts) (state : Option SavedParts) → FirstDiffersAt i (kept_in banks g) (kept_in banks f) → IsValid v → volatile ≡ encode_blob Volatile v → v.started ≡ true → IsValid z → saved ≡ encode_blob Saved z
+      → z.saved ≡ state → is_some state ≡ true → IfSome state IsKept → FirstDiffersAt (10 + i) saved (encode_blob Saved (record v { saved = Some (kept v) }))
+  disagrees_with i v z None first fit is on fit_too is_too there some fits = absurd cc
+  disagrees_with i v z (Some state) first fit is on fit_too is_too there some fits =
+      let running = running_in_banks v fit is on in
+      let kept_too = saved_in_banks z state fit_too is_too there fits in
+      let behind : drop 10 saved ≡ kept_in banks g =
+      saved_text z state fit_too is_too there ∙ ap (λ (b : Banks). counted b state.counter (λ a. kept_bank_of a state)) kept_too.0 ∙ sym kept_too.1 in
+      let long_enough : 10 ≤ length saved = omega (arith, saved_size z saved fit_too (inl is_too) (ap (λ (s : Option SavedParts). is_some s) there), saved_width z.banks) in
+      let moved = differs_behind 10 i saved (kept_in banks f) long_enough (subst (λ (bytes : List ℕ). FirstDiffersAt i bytes (kept_in banks f)) (sym behind) first) in
+      subst (FirstDiffersAt (10 + i) saved)
+      (ap (λ (bytes : List ℕ). take 10 saved ++ bytes) running.1
+      ∙ ap (λ (front : List ℕ). front ++ counted banks v.counter (λ a. kept_bank_of a (kept v))) (header_read z state saved is_too there fits ∙ ap (λ (b : Banks). header_of Saved b (saved_length b) ++ 1 ∷ []) (kept_too.0 ∙ sym running.0))
+      ∙ ap (λ (b : Banks). (header_of Saved v.banks (saved_length v.banks) ++ 1 ∷ []) ++ counted b v.counter (λ a. kept_bank_of a (kept v))) (sym running.0)
+      ∙ sym (agreeing_text v fit)) moved
+
+  pub fields_disagree : (i : ℕ) → FirstDiffersAt i (kept_in banks g) (kept_in banks f) → IsBlob Volatile volatile → IsBlob Saved saved → eqb (get_or volatile 9 0) 1 ≡ true → eqb (get_or saved 9 0) 1 ≡ true
+      → Disagrees (10 + i) volatile saved
+  fields_disagree i first v z on there =
+      let started : v.values.started ≡ true = sym (started_read v.values volatile (inl v.spelled)) ∙ on in
+      let some : is_some z.values.saved ≡ true = sym (saved_read z.values saved (inl z.spelled)) ∙ there in
+      record {
+        running = v.values;
+        is_fit = v.fit;
+        is_started = started;
+        is_volatile = v.spelled;
+        saving = z.values;
+        is_fit_too = z.fit;
+        is_there = is_there z.values.saved some;
+        is_saved = z.spelled;
+        first = disagrees_with i v.values z.values z.values.saved first v.fit v.spelled started z.fit z.spelled refl some z.fit.kept_fits;
+      }
+
+pub none_agrees : (v z : TpmParts) (saved : List ℕ) → eqb (get_or saved 9 0) 1 ≡ false → TellsSaved saved z → IfSome z.saved (λ state. state ≡ kept v)
+none_agrees v z saved flag exact = subst (λ (state : Option SavedParts). IfSome state (λ state. state ≡ kept v)) (sym (no_state_read z saved exact flag)) tt
+
+-- ---- versions
+
+-- a flag of 1 is that of a blob
+pub of_version_there : (kind : Kind) (version : ℕ) (bytes : List ℕ) → IsNoneOrOfVersion kind version bytes → eqb (get_or bytes 9 0) 1 ≡ true → IsOfVersion kind version bytes
+of_version_there kind version bytes (inl none) on = let off : eqb (get_or bytes 9 0) 1 ≡ false = ap (λ (b : List ℕ). eqb (get_or b 9 0) 1) none in absurd cc
+of_version_there kind version bytes (inr is) on = is
+
+-- a blob of a version is a blob
+pub some_blob : (kind : Kind) (version : ℕ) (bytes : List ℕ) → IsNoneOrOfVersion kind version bytes → IsNoneOrBlob kind bytes
+some_blob kind version bytes (inl none) = inl none
+some_blob kind version bytes (inr is) = inr is.0
+
+-- what is begun is a blob
+pub blob_if_begun : (kind : Kind) (bytes : List ℕ) → IsNoneOrBlob kind bytes → (bytes ≡ [] → ⊥) → IsBlob kind bytes
+blob_if_begun kind bytes (inl none) begun = absurd (begun none)
+blob_if_begun kind bytes (inr is) begun = is
 
 -- ---- some values that are decoded
 
--- a TPM with nothing to give
-nothing_decoded : IsValid (manufactured (replicate 32 0))
-nothing_decoded = fit_stopped (replicate 32 0) 0 None refl (omega arith) tt
-
--- values of which something is decoded
-pub record Decoded (P : TpmParts → Type 0) : Type 0 where
+-- values of which something is decoded, with these banks
+pub record Decoded (banks : Banks) (P : TpmParts → Type 0) : Type 0 where
   pub values : TpmParts
   pub fit : IsValid values
+  pub own : values.banks ≡ banks
   pub exact : P values
 
-pub volatile_decoded : (bytes : List ℕ) → IsNoneOrBlob Volatile bytes → Decoded (TellsVolatile bytes)
-volatile_decoded bytes (inl none) = record { values = manufactured (replicate 32 0); fit = nothing_decoded; exact = inr (none, refl) }
-volatile_decoded bytes (inr is) = record { values = is.values; fit = is.fit; exact = inl is.spelled }
+nothing_decoded : (banks : Banks) → IsValid (stopped_with zero_seed banks 0 None)
+nothing_decoded banks = fit_stopped zero_seed banks 0 None refl (omega arith) tt tt
 
-pub saved_decoded : (bytes : List ℕ) → IsNoneOrBlob Saved bytes → Decoded (TellsSaved bytes)
-saved_decoded bytes (inl none) = record { values = manufactured (replicate 32 0); fit = nothing_decoded; exact = inr (none, refl) }
-saved_decoded bytes (inr is) = record { values = is.values; fit = is.fit; exact = inl is.spelled }
+pub volatile_decoded : (banks : Banks) (bytes : List ℕ) → IsNoneOrOfVersion Volatile (version_of banks) bytes → Decoded banks (TellsVolatile bytes)
+volatile_decoded banks bytes (inl none) = record { values = stopped_with zero_seed banks 0 None; fit = nothing_decoded banks; own = refl; exact = inr (none, refl) }
+volatile_decoded banks bytes (inr is) = record { values = is.0.values; fit = is.0.fit; own = sym (banks_read Volatile is.0.values bytes banks is.0.spelled is.1); exact = inl is.0.spelled }
 
--- ---- the answers of the search for a disagreement
-
-pub disagrees_if_some : (volatile saved : List ℕ) (found : Option ℕ) → IsNoneOrBlob Volatile volatile → IsNoneOrBlob Saved saved → eqb (get_or volatile 9 0) 1 ≡ true → eqb (get_or saved 9 0) 1 ≡ true
-    → IfSome found (λ place. FirstDiffersAt place saved (take 10 saved ++ slice volatile 18 516)) → IfSome found (λ place. Disagrees place volatile saved)
-disagrees_if_some volatile saved None v z on there first = tt
-disagrees_if_some volatile saved (Some place) v z on there first = disagrees place volatile saved v z on there first
+pub saved_decoded : (banks : Banks) (bytes : List ℕ) → IsNoneOrOfVersion Saved (version_of banks) bytes → Decoded banks (TellsSaved bytes)
+saved_decoded banks bytes (inl none) = record { values = stopped_with zero_seed banks 0 None; fit = nothing_decoded banks; own = refl; exact = inr (none, refl) }
+saved_decoded banks bytes (inr is) = record { values = is.0.values; fit = is.0.fit; own = sym (banks_read Saved is.0.values bytes banks is.0.spelled is.1); exact = inl is.0.spelled }
 
 -- what holds of a started TPM and of a saved state that are decoded
 abbrev pub Agree : List ℕ → List ℕ → Type 0
 Agree volatile saved = (v z : TpmParts) → IsValid v → TellsVolatile volatile v → IsValid z → TellsSaved saved z → v.started ≡ true → IfSome z.saved (λ state. state ≡ kept v)
 
-pub agrees_if_none : (volatile saved : List ℕ) (found : Option ℕ) → IfNone found (drop 10 saved ≡ slice volatile 18 516) → IfNone found (Agree volatile saved)
-agrees_if_none volatile saved None same = λ v z. agrees v z volatile saved same
-agrees_if_none volatile saved (Some place) same = tt
-
 -- What is read of three blobs that agree is put together to the one TPM whose blobs they are.
-pub put_together : (permanent volatile saved : List ℕ) (seed : List ℕ) (boots : ℕ) (running : Option Running) (state : Option SavedParts) (parts : TpmParts)
-    → IsBlob Permanent permanent → IsNoneOrBlob Volatile volatile → IsNoneOrBlob Saved saved → Agree volatile saved
-    → ((v : TpmParts) → IsValid v → permanent ≡ encode_blob Permanent v → seed ≡ v.seed) → ((v : TpmParts) → IsValid v → permanent ≡ encode_blob Permanent v → boots ≡ v.boots)
+pub put_together : (permanent volatile saved : List ℕ) (seed : List ℕ) (banks : Banks) (boots : ℕ) (running : Option Running) (state : Option SavedParts) (parts : TpmParts)
+    → IsBlob Permanent permanent → IsNoneOrOfVersion Volatile (version_in permanent) volatile → IsNoneOrOfVersion Saved (version_in permanent) saved → Agree volatile saved
+    → ((v : TpmParts) → IsValid v → permanent ≡ encode_blob Permanent v → seed ≡ v.seed)
+    → ((v : TpmParts) → IsValid v → permanent ≡ encode_blob Permanent v → banks ≡ v.banks)
+    → ((v : TpmParts) → IsValid v → permanent ≡ encode_blob Permanent v → boots ≡ v.boots)
     → ((v : TpmParts) → IsValid v → TellsVolatile volatile v → running ≡ running_in v) → ((v : TpmParts) → IsValid v → TellsSaved saved v → state ≡ v.saved)
-    → parts ≡ parts_with seed boots running state → IsConsistent parts × (IsValid parts → IsAssembled permanent volatile saved parts)
-put_together permanent volatile saved seed boots running state parts p v z agree seed_is boots_is running_is state_is are =
+    → parts ≡ parts_with seed banks boots running state → IsConsistent parts × (IsValid parts → IsAssembled permanent volatile saved parts)
+put_together permanent volatile saved seed banks boots running state parts p v z agree seed_is banks_are boots_is running_is state_is are =
     let a = p.values in
-    let b = volatile_decoded volatile v in
-    let c = saved_decoded saved z in
+    let version = version_encoded Permanent a permanent p.spelled in
+    let b = volatile_decoded a.banks volatile (subst (λ (n : ℕ). IsNoneOrOfVersion Volatile n volatile) version v) in
+    let c = saved_decoded a.banks saved (subst (λ (n : ℕ). IsNoneOrOfVersion Saved n saved) version z) in
     let same : parts ≡ joined a b.values c.values =
-    are ∙ parts_are a b.values c.values seed boots running state b.fit (seed_is a p.fit p.spelled) (boots_is a p.fit p.spelled) (running_is b.values b.fit b.exact) (state_is c.values c.fit c.exact) in
-    let consistent : IsConsistent (joined a b.values c.values) = joined_is_consistent a b.values c.values b.fit (agree b.values c.values b.fit b.exact c.fit c.exact) in (
+    are ∙ parts_are a b.values c.values seed banks boots running state b.fit (seed_is a p.fit p.spelled) (banks_are a p.fit p.spelled) (boots_is a p.fit p.spelled) (running_is b.values b.fit b.exact) (state_is c.values c.fit c.exact) in
+    let consistent : IsConsistent (joined a b.values c.values) = joined_is_consistent a b.values c.values b.fit c.fit b.own c.own (agree b.values c.values b.fit b.exact c.fit c.exact) in (
       subst IsConsistent (sym same) consistent,
-      λ fit. subst (IsAssembled permanent volatile saved) (sym same) (joined_is_assembled permanent volatile saved a b.values c.values (subst IsValid same fit) p.spelled b.exact c.exact),
+      λ fit. subst (IsAssembled permanent volatile saved) (sym same) (record {
+        fit = subst IsValid same fit;
+        is_permanent = p.spelled ∙ permanent_alike a b.values c.values;
+        is_volatile = tells_volatile a b.values c.values volatile b.own b.exact;
+        is_saved = tells_saved a b.values c.values saved c.own c.exact;
+      }),
     )

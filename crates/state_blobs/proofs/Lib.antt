@@ -1,5 +1,6 @@
 pub mod Magics
 pub mod Registers
+pub mod Widths
 pub mod Bodies
 pub mod Refused
 pub mod Decoding

@@ -1,14 +1,18 @@
--- The bytes of a magic at the start of what is decoded.
-use Rattle.std.proofs.Common.{◌≡◌, ◌≢◌, ℕ, ◌+◌, suc, Bool, cond, eqb, List, [], ◌∷◌, ◌++◌, take, Err, refl, sym, ap, subst, ◌∙◌, arith, inl, inr, ◌⊎◌}
+-- The bytes of a magic at the start of what is decoded, and the version behind it.
+use Rattle.std.proofs.Common.{◌≡◌, ◌≢◌, ℕ, ◌+◌, suc, Bool, true, false, cond, eqb, List, [], ◌∷◌, ◌++◌, take, Option, Some, None, Err, refl, sym, ap, subst, ◌∙◌, arith, inl, inr, ◌⊎◌}
 use Rattle.std.proofs.lemmas.Bool.{eqb-true, eqb-false, ne_eqb}
-use Rattle.vt_base.specs.Layout.{Layout, Encodes}
+use Rattle.vt_base.specs.Layout.{Layout, Encodes, number_then}
 use Rattle.vt_base.specs.Refusing.{malformed, refuse, magic_byte_then}
 use Rattle.vt_base.specs.declared.types.Why.{Why}
-use Rattle.vt_base.specs.declared.types.Why.TheVariants.{Magic}
+use Rattle.vt_base.specs.declared.types.Kind.{Kind}
+use Rattle.vt_base.specs.declared.types.Why.TheVariants.{Magic, Version}
 use Rattle.vt_base.proofs.Prefixes.{chosen}
 use Rattle.vt_base.specs.Magics.{magic_then}
 use Rattle.vt_base.proofs.Magics.{magic_byte_encodes}
-use Rattle.state_blobs.specs.Blobs.{Ending}
+use Rattle.tpm_core.specs.declared.algorithm.Banks.{Banks}
+use Rattle.tpm_core.specs.declared.algorithm.Banks.TheVariants.{One, Two}
+use Rattle.state_blobs.specs.Numbers.{version_of, banks_named}
+use Rattle.state_blobs.specs.Blobs.{Ending, sized_then, after_version, after_magic}
 use Rattle.state_blobs.specs.Refusals.{FirstDiffersAt}
 
 -- one magic byte: another byte stands there
@@ -55,3 +59,47 @@ magic_cases (mark ∷ marks) place next end bytes spelled =
             | inr (i, first, ends) ↦ inr (suc i, rw is (record { there = omega (arith, first.there); named = omega (arith, first.named); same = ap (λ (r : List ℕ). mark ∷ r) first.same; differs = first.differs }), ends ∙ ap (λ (p : ℕ). Err (malformed Magic p)) (omega arith))
           ]
     ]
+
+-- ---- the version
+
+pub version_named : (banks : Banks) → banks_named (version_of banks) ≡ Some banks
+version_named One = refl
+version_named Two = refl
+
+named_if : (version : ℕ) (first second : Bool) (banks : Banks) → (first ≡ true → version ≡ 1) → (second ≡ true → version ≡ 2) → cond first (Some One) (cond second (Some Two) None) ≡ Some banks → version ≡ version_of banks
+named_if version true second One p q is = p refl
+named_if version true second Two p q is = absurd cc
+named_if version false true One p q is = absurd cc
+named_if version false true Two p q is = q refl
+named_if version false false banks p q is = absurd cc
+
+-- a version that stands for banks is theirs
+pub version_is : (version : ℕ) (banks : Banks) → banks_named version ≡ Some banks → version ≡ version_of banks
+version_is version banks is = named_if version (eqb version 1) (eqb version 2) banks (eqb-true version 1) (eqb-true version 2) is
+
+pub same_version : (a b : Banks) → version_of a ≡ version_of b → a ≡ b
+same_version One One same = refl
+same_version Two Two same = refl
+same_version One Two same = absurd cc
+same_version Two One same = absurd cc
+
+pub version_encodes : (kind : Kind) (banks : Banks) (end : Ending) (rest : List ℕ) → Encodes (number_then (sized_then kind banks)) end rest → Encodes (after_magic kind) end (version_of banks ∷ rest)
+version_encodes kind banks end rest spelled = (omega arith, subst (λ (named : Option Banks). Encodes (after_version kind named) end rest) (sym (version_named banks)) spelled)
+
+-- another version
+pub version_refuses : (kind : Kind) (version : ℕ) → banks_named version ≡ None → Encodes (after_magic kind) (Err (malformed Version 4)) (version ∷ [])
+version_refuses kind version other = (omega arith, subst (λ (named : Option Banks). Encodes (after_version kind named) (Err (malformed Version 4)) []) (sym other) (refl, refl))
+
+-- what stands behind the magic
+abbrev pub IsBehindMagic : Kind → Ending → List ℕ → Type 0
+IsBehindMagic kind end bytes =
+    ((banks : Banks) × (rest : List ℕ) × (bytes ≡ version_of banks ∷ rest) × Encodes (number_then (sized_then kind banks)) end rest)
+    ⊎ ((other : ℕ) × (banks_named other ≡ None) × (bytes ≡ other ∷ []) × (end ≡ Err (malformed Version 4)))
+
+named_cases : (kind : Kind) (end : Ending) (version : ℕ) (rest : List ℕ) (named : Option Banks) → banks_named version ≡ named → Encodes (after_version kind named) end rest → IsBehindMagic kind end (version ∷ rest)
+named_cases kind end version rest None is spelled = inr (version, is, ap (λ (r : List ℕ). version ∷ r) spelled.1, sym spelled.0)
+named_cases kind end version rest (Some banks) is spelled = inl (banks, rest, ap (λ (v : ℕ). v ∷ rest) (version_is version banks is), spelled)
+
+pub version_cases : (kind : Kind) (end : Ending) (bytes : List ℕ) → Encodes (after_magic kind) end bytes → IsBehindMagic kind end bytes
+version_cases kind end [] spelled = absurd (omega (arith, spelled.0))
+version_cases kind end (version ∷ rest) spelled = named_cases kind end version rest (banks_named version) refl spelled.1

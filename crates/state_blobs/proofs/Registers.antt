@@ -1,11 +1,13 @@
 -- Registers of one size, one after the other.
-use Rattle.std.proofs.Common.{◌≡◌, ℕ, ◌+◌, ◌*◌, ◌/◌, ◌%◌, ◌<◌, suc, List, [], ◌∷◌, ◌++◌, length, take, drop, get_or, set, refl, sym, ap, ◌∙◌, arith}
+use Rattle.std.proofs.Common.{◌≡◌, ℕ, ◌+◌, ◌*◌, ◌/◌, ◌%◌, ◌<◌, suc, List, [], ◌∷◌, ◌++◌, length, take, drop, get_or, set, refl, sym, ap, ◌∙◌, arith, inl, inr}
+use Rattle.std.proofs.lemmas.Bool.{cases_eq}
+use Rattle.std.proofs.Math.Seq.{take-set-lt}
 use Rattle.std.specs.List.{concat}
 use Rattle.state_blobs.specs.Running.{AreRegisters}
 use Rattle.std.proofs.Math.Nat.{suc-mul}
 use Rattle.std.proofs.Math.Seq.{take-append-add}
 use Rattle.std.proofs.lemmas.Nat.{div-add-mod', div_below, mod_below}
-use Rattle.std.proofs.lemmas.List.{length-append, length-take, length-drop, take-append-drop, take_at, drop_at, get_or_append_left, get_or-append_right, get_or-take, take_all, drop_all, set-append_left, set-append_right}
+use Rattle.std.proofs.lemmas.List.{length-append, length-take, length-drop, take-append-drop, take_at, drop_at, get_or_append_left, get_or-append_right, get_or-take, get_or-set_same, get_or-set_other, length-set, take_all, drop_all, set-append_left, set-append_right}
 
 AreRegisters-tail : (size : ℕ) (value : List ℕ) (values : List (List ℕ)) → AreRegisters size (value ∷ values) → AreRegisters size values
 AreRegisters-tail size value values h i lt = h (suc i) (omega (arith, lt))
@@ -88,6 +90,17 @@ set-registers size values k byte h lt =
     let p = place_of size values k h lt in
     set-concat size values (k / size) (k % size) byte h p.1 p.2 ∙ ap (λ (n : ℕ). set (concat values) n byte) p.3
 
+-- the registers stay as long as they are
+pub AreRegisters-set : (size : ℕ) (values : List (List ℕ)) (k byte : ℕ) → AreRegisters size values → k < length (concat values) → AreRegisters size (set values (k / size) (set (get_or values (k / size) []) (k % size) byte))
+AreRegisters-set size values k byte h lt i below =
+    let value = set (get_or values (k / size) []) (k % size) byte in
+    let within : i < length values = omega (arith, below, length-set values (k / size) value) in
+    elim (cases_eq i (k / size)) [
+      | inl same ↦ ap (λ (j : ℕ). length (get_or (set values (k / size) value) j [])) same ∙ ap length (get_or-set_same values (k / size) value [] (index_below size values k h lt))
+          ∙ length-set (get_or values (k / size) []) (k % size) byte ∙ h (k / size) (index_below size values k h lt)
+      | inr other ↦ ap length (get_or-set_other values (k / size) i value [] other) ∙ h i within
+    ]
+
 -- the first registers among these bytes
 pub registers_in : ℕ → ℕ → List ℕ → List (List ℕ)
 registers_in size Prim.Native.Nat.zero bytes = []
@@ -118,3 +131,11 @@ concat-take size (suc n) (value ∷ values) h =
     let is = h 0 (omega arith) in
     ap (λ (rest : List ℕ). value ++ rest) (concat-take size n values (AreRegisters-tail size value values h))
     ∙ sym (ap (λ (k : ℕ). take k (value ++ concat values)) (omega (arith, is, suc-mul n size)) ∙ take-append-add value (concat values) (n * size))
+
+-- a byte of the first registers is changed
+pub set-taken : (size n k byte : ℕ) (old new : List (List ℕ)) → AreRegisters size old → AreRegisters size new → concat new ≡ set (concat old) k byte → k < n * size → concat (take n new) ≡ set (concat (take n old)) k byte
+set-taken size n k byte old new are are_too changed lt =
+    concat-take size n new are_too
+    ∙ ap (take (n * size)) changed
+    ∙ take-set-lt (n * size) (concat old) k byte lt
+    ∙ ap (λ (bytes : List ℕ). set bytes k byte) (sym (concat-take size n old are))

@@ -2,11 +2,16 @@
 use Rattle.std.specs.Prelude.{◌≡◌, ℕ, ◌+◌, List, [], ◌∷◌, ◌++◌, length, take, drop, Option, Some, None, if◌then◌else◌, Bool, true, ◌||◌, ◌==◌}
 use Rattle.std.specs.List.{concat}
 use Rattle.vt_base.specs.Numbers.{number, long}
-use Rattle.state_blobs.specs.Numbers.{version, permanent_length, flag_alone, volatile_length, saved_length}
+use Rattle.state_blobs.specs.Numbers.{version_of, permanent_length, flag_alone, volatile_length, saved_length}
 use Rattle.vt_base.specs.declared.types.Kind.{Kind}
 use Rattle.vt_base.specs.declared.types.Kind.TheVariants.{Permanent, Volatile, Saved}
+use Rattle.tpm_core.specs.declared.algorithm.Algorithm.{Algorithm}
+use Rattle.tpm_core.specs.declared.algorithm.Algorithm.TheVariants.{Sha256, Sha384}
+use Rattle.tpm_core.specs.declared.algorithm.Banks.{Banks}
+use Rattle.tpm_core.specs.declared.algorithm.Banks.TheVariants.{One, Two}
 use Rattle.tpm_core.specs.declared.parts.SavedParts.{SavedParts}
 use Rattle.tpm_core.specs.declared.parts.TpmParts.{TpmParts}
+use Rattle.tpm_core.specs.Banks.{bank_of, kept_bank_of}
 use Rattle.tpm_core.specs.Steps.{IsValid}
 
 -- the letter that distinguishes the kinds: P, V or Z
@@ -20,16 +25,21 @@ abbrev pub magic_of : Kind → List ℕ
 magic_of kind = 67 ∷ 82 ∷ 66 ∷ letter_of kind ∷ []
 
 -- the magic, the version, and how many bytes follow
-abbrev pub header_of : Kind → ℕ → List ℕ
-header_of kind count = magic_of kind ++ version ∷ [] ++ number count
+abbrev pub header_of : Kind → Banks → ℕ → List ℕ
+header_of kind banks count = magic_of kind ++ version_of banks ∷ [] ++ number count
 
 -- bytes behind their header
-abbrev pub with_header : Kind → List ℕ → List ℕ
-with_header kind body = header_of kind (length body) ++ body
+abbrev pub with_header : Kind → Banks → List ℕ → List ℕ
+with_header kind banks body = header_of kind banks (length body) ++ body
 
--- a counter, and the registers one after the other
-abbrev pub counted : ℕ → List (List ℕ) → List ℕ
-counted counter registers = number counter ++ concat registers
+-- the registers of each bank that there is, one bank behind the other
+abbrev pub registers_of : Banks → (Algorithm → List (List ℕ)) → List ℕ
+registers_of One bank = concat (bank Sha256)
+registers_of Two bank = concat (bank Sha256) ++ concat (bank Sha384)
+
+-- a counter, and the registers behind it
+abbrev pub counted : Banks → ℕ → (Algorithm → List (List ℕ)) → List ℕ
+counted banks counter bank = number counter ++ registers_of banks bank
 
 -- what outlives every power cycle
 abbrev pub permanent_body : TpmParts → List ℕ
@@ -37,27 +47,27 @@ permanent_body v = v.seed ++ long v.boots
 
 -- a flag, and where the TPM is started what it loses with its power
 abbrev pub volatile_body : TpmParts → List ℕ
-volatile_body v = if v.started then (1 ∷ long v.draws) ++ counted v.counter v.pcr else 0 ∷ []
+volatile_body v = if v.started then (1 ∷ long v.draws) ++ counted v.banks v.counter (λ a. bank_of a v) else 0 ∷ []
 
 -- a flag, and the saved state if there is one
-abbrev pub saved_body : Option SavedParts → List ℕ
-saved_body None = 0 ∷ []
-saved_body (Some state) = 1 ∷ counted state.counter state.pcr
+abbrev pub saved_body : Banks → Option SavedParts → List ℕ
+saved_body banks None = 0 ∷ []
+saved_body banks (Some state) = 1 ∷ counted banks state.counter (λ a. kept_bank_of a state)
 
 abbrev pub body_of : Kind → TpmParts → List ℕ
 body_of Permanent v = permanent_body v
 body_of Volatile v = volatile_body v
-body_of Saved v = saved_body v.saved
+body_of Saved v = saved_body v.banks v.saved
 
 -- the blob of a kind: the one encoding of these values
 unfoldable pub encode_blob : Kind → TpmParts → List ℕ
-encode_blob kind v = with_header kind (body_of kind v)
+encode_blob kind v = with_header kind v.banks (body_of kind v)
 
--- whether so many bytes may follow the length field
-abbrev pub is_length : Kind → ℕ → Bool
-is_length Permanent count = count == permanent_length
-is_length Volatile count = count == flag_alone || count == volatile_length
-is_length Saved count = count == flag_alone || count == saved_length
+-- whether so many bytes may follow the length field of a blob of a TPM with these banks
+abbrev pub is_length : Kind → Banks → ℕ → Bool
+is_length Permanent banks count = count == permanent_length
+is_length Volatile banks count = count == flag_alone || count == volatile_length banks
+is_length Saved banks count = count == flag_alone || count == saved_length banks
 
 -- the flag at the start of so many bytes: 1 where values follow it
 abbrev pub flag_for : ℕ → ℕ

@@ -1,10 +1,18 @@
 -- The numbers of the format of blobs. (Own definitions.)
-use Rattle.std.specs.Prelude.{ℕ}
+use Rattle.std.specs.Prelude.{ℕ, Option, Some, None, ◌==◌, if◌then◌else◌}
+use Rattle.tpm_core.specs.declared.algorithm.Banks.{Banks}
+use Rattle.tpm_core.specs.declared.algorithm.Banks.TheVariants.{One, Two}
 
--- the version, and where it stands: behind the four bytes of the magic
-abbrev pub version : ℕ
-version = 1
+-- the version of the blobs of a TPM with these banks
+abbrev pub version_of : Banks → ℕ
+version_of One = 1
+version_of Two = 2
 
+-- the banks of a TPM whose blobs have this version
+abbrev pub banks_named : ℕ → Option Banks
+banks_named version = if version == 1 then Some One else if version == 2 then Some Two else None
+
+-- where the version stands: behind the four bytes of the magic
 abbrev pub version_place : ℕ
 version_place = 4
 
@@ -24,14 +32,17 @@ permanent_length = 40
 abbrev pub flag_alone : ℕ
 flag_alone = 1
 
--- the body of the volatile blob of a started TPM: the flag, the draws in 8 bytes, the counter in 4, 24 registers of 32
-abbrev pub volatile_length : ℕ
-volatile_length = 781
+-- the body of the volatile blob of a started TPM: the flag, the draws in 8 bytes, the counter in 4, 24 registers of 32 and, of
+-- two banks, 24 of 48
+abbrev pub volatile_length : Banks → ℕ
+volatile_length One = 781
+volatile_length Two = 1933
 
--- the body of the blob of a saved state: the flag, the counter in 4 bytes, 16 registers of 32
-abbrev pub saved_length : ℕ
-saved_length = 517
+-- the body of the blob of a saved state: the flag, the counter in 4 bytes, 16 registers of 32 and, of two banks, 16 of 48
+abbrev pub saved_length : Banks → ℕ
+saved_length One = 517
+saved_length Two = 1285
 
--- the longest blob: the volatile one of a started TPM, with its header
+-- the longest blob: the volatile one of a started TPM with two banks, with its header
 abbrev pub largest_blob : ℕ
-largest_blob = 790
+largest_blob = 1942

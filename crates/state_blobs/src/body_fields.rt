@@ -1,14 +1,18 @@
 //! The fields of a blob's body, which take the bytes that are read.
 
-ghost use Rattle.std.specs.Prelude.{◌≡◌, ◌<◌, length, slice_index, slice_set};
+ghost use Rattle.std.specs.Prelude.{◌≡◌, ◌<◌, ◌≤◌, length, slice_index, slice_set};
 ghost use Rattle.vt_base.specs.declared.types.Kind.TheVariants.{Permanent, Volatile, Saved};
-ghost use Rattle.state_blobs.specs.Running.{AreRegisters};
-ghost use Rattle.state_blobs.specs.Partial.{body_in, kept_in, AreValid};
+ghost use Rattle.tpm_core.specs.declared.algorithm.Banks.TheVariants.{Two};
+ghost use Rattle.state_blobs.specs.Partial.{counted_in, body_in, kept_in, AreValid};
 
-use crate::counted::{counted_byte, set_counted_byte};
-use crate::format::{BOOTS_PLACE, DRAWS_PLACE, KEPT_PLACE, RUNNING_PLACE};
-use crate::numbers::long_with;
-use tpm_core::{KEPT_PCR_COUNT, PCR_COUNT, SEED_SIZE, SHA256_DIGEST_SIZE};
+use crate::counted::{
+    counted_byte, set_register_byte, sha256_registers_are_valid, sha384_registers_are_valid,
+};
+use crate::format::{BOOTS_PLACE, COUNTER_SIZE, DRAWS_PLACE, KEPT_PLACE, RUNNING_PLACE};
+use crate::numbers::{long_with, number_with};
+use tpm_core::{
+    Banks, KEPT_PCR_COUNT, PCR_COUNT, SEED_SIZE, SHA256_DIGEST_SIZE, SHA384_DIGEST_SIZE,
+};
 use vt_base::Kind;
 
 /// The fields of a body. One that the kind of blob doesn't have, or that wasn't read yet, may have any value.
@@ -20,8 +24,10 @@ pub struct Fields {
     pub flag: u8,
     pub draws: u64,
     pub counter: u32,
-    /// The registers; of a saved state the first of them.
+    /// The registers of the bank of SHA-256; of a saved state the first of them.
     pub pcr: [[u8; SHA256_DIGEST_SIZE]; PCR_COUNT],
+    /// The same of the bank of SHA-384.
+    pub pcr384: [[u8; SHA384_DIGEST_SIZE]; PCR_COUNT],
 }
 
 /// Changes a byte of the body.
@@ -40,11 +46,15 @@ pub fn set_byte(fields: &mut Fields, kind: Kind, i: usize, byte: u8)
 }
 
 /// A byte of the counter and the registers that a shutdown keeps.
-pub fn kept_byte(fields: &Fields, i: usize) -> u8
-    requires { i < length (kept_in fields.now) }
-    ensures { result ≡ slice_index (kept_in fields.now) i }
+pub fn kept_byte(banks: Banks, fields: &Fields, i: usize) -> u8
+    requires { i < length (kept_in banks fields.now) }
+    ensures { result ≡ slice_index (kept_in banks fields.now) i }
 {
-    counted_byte(fields.counter, &fields.pcr[..KEPT_PCR_COUNT], i)
+    let (kept, kept384) = (
+        &fields.pcr[..KEPT_PCR_COUNT],
+        &fields.pcr384[..KEPT_PCR_COUNT],
+    );
+    counted_byte(fields.counter, kept, kept384, i)
 }
 
 fn set_permanent_byte(fields: &mut Fields, i: usize, byte: u8)
@@ -69,8 +79,7 @@ fn set_volatile_byte(fields: &mut Fields, i: usize, byte: u8)
     } else if i < RUNNING_PLACE {
         fields.draws = long_with(fields.draws, i - DRAWS_PLACE, byte);
     } else {
-        let k = i - RUNNING_PLACE;
-        set_counted_byte(&mut fields.counter, &mut fields.pcr, k, byte);
+        set_counted_byte(fields, PCR_COUNT, i - RUNNING_PLACE, byte);
     }
 }
 
@@ -82,14 +91,31 @@ fn set_saved_byte(fields: &mut Fields, i: usize, byte: u8)
     if i < KEPT_PLACE {
         fields.flag = byte;
     } else {
-        let mut counter = fields.counter;
-        let kept = &mut fields.pcr[..KEPT_PCR_COUNT];
-        set_counted_byte(&mut counter, kept, i - KEPT_PLACE, byte);
-        fields.counter = counter;
+        set_counted_byte(fields, KEPT_PCR_COUNT, i - KEPT_PLACE, byte);
+    }
+}
+
+/// Changes a byte of the counter and of so many registers of each bank.
+fn set_counted_byte(fields: &mut Fields, count: usize, i: usize, byte: u8)
+    requires valid { AreValid fields.old }
+    requires count { count ≤ 24 }
+    requires there { i < length (counted_in Two count fields.old) }
+    ensures bytes { counted_in Two count fields.new ≡ slice_set (counted_in Two count fields.old) i byte }
+    ensures flag { fields.new.flag ≡ fields.old.flag }
+    ensures draws { fields.new.draws ≡ fields.old.draws }
+{
+    let first = COUNTER_SIZE + SHA256_DIGEST_SIZE * count;
+    if i < COUNTER_SIZE {
+        fields.counter = number_with(fields.counter, i, byte);
+    } else if i < first {
+        set_register_byte(&mut fields.pcr, i - COUNTER_SIZE, byte);
+    } else {
+        set_register_byte(&mut fields.pcr384, i - first, byte);
     }
 }
 
 /// What the types of the fields make sure of.
+#[tactic(auto, using(crate::proofs::Places::fields_are_valid))]
 pub fn fields_are_valid(fields: &Fields)
     ensures { AreValid fields.now }
 {
@@ -97,20 +123,16 @@ pub fn fields_are_valid(fields: &Fields)
     let _draws = fields.draws;
     let _counter = fields.counter;
     seed_is_valid(&fields.seed);
-    bank_is_valid(&fields.pcr);
+    bank_is_counted(&fields.pcr);
+    sha256_registers_are_valid(&fields.pcr);
+    bank_is_counted(&fields.pcr384);
+    sha384_registers_are_valid(&fields.pcr384);
 }
 
 fn seed_is_valid(seed: &[u8; SEED_SIZE])
     ensures { length seed.now ≡ 32 }
 {}
 
-fn bank_is_valid(bank: &[[u8; SHA256_DIGEST_SIZE]; PCR_COUNT])
-    ensures count { length bank.now ≡ 24 }
-    ensures size { AreRegisters 32 bank.now }
-{
-    registers_are_valid(bank);
-}
-
-fn registers_are_valid(registers: &[[u8; SHA256_DIGEST_SIZE]])
-    ensures { AreRegisters 32 registers.now }
+fn bank_is_counted<const N: usize>(bank: &[[u8; N]; PCR_COUNT])
+    ensures { length bank.now ≡ 24 }
 {}

@@ -4,26 +4,25 @@ ghost use Rattle.std.specs.Prelude.{◌≡◌, ◌<◌, ◌≤◌, length, slice
 ghost use Rattle.tpm_core.specs.Steps.{IsValid};
 ghost use Rattle.state_blobs.specs.Encodings.{body_of, permanent_body, volatile_body, saved_body, header_of, encode_blob};
 
-use crate::blobs::magic;
+use crate::blobs::{magic, saved_length, version_of, volatile_length};
 use crate::counted::counted_byte;
 use crate::format::{
     BOOTS_PLACE, DRAWS_PLACE, FLAG_ALONE, HEADER_SIZE, KEPT_PLACE, PERMANENT_LENGTH, RUNNING_PLACE,
-    SAVED_LENGTH, VERSION, VOLATILE_LENGTH,
 };
 use crate::numbers::long_byte;
-use tpm_core::{SavedParts, TpmParts};
+use tpm_core::{Banks, TpmParts};
 use vt_base::Kind;
 
 /// How many bytes of body the blob of a kind has.
 fn body_length(parts: &TpmParts, kind: Kind) -> u32
     requires { IsValid parts.now }
     ensures length { result ≡ length (body_of kind parts.now) }
-    ensures within_limit { result ≤ 781 }
+    ensures within_limit { result ≤ 1933 }
 {
     match kind {
         Kind::Permanent => PERMANENT_LENGTH,
-        Kind::Volatile if parts.started => VOLATILE_LENGTH,
-        Kind::Saved if parts.saved.is_some() => SAVED_LENGTH,
+        Kind::Volatile if parts.started => volatile_length(parts.banks),
+        Kind::Saved if parts.saved.is_some() => saved_length(parts.banks),
         Kind::Volatile | Kind::Saved => FLAG_ALONE,
     }
 }
@@ -33,7 +32,7 @@ fn body_length(parts: &TpmParts, kind: Kind) -> u32
 pub fn encoded_length(parts: &TpmParts, kind: Kind) -> u32
     requires { IsValid parts.now }
     ensures length { result ≡ length (encode_blob kind parts.now) }
-    ensures within_limit { result ≤ 790 }
+    ensures within_limit { result ≤ 1942 }
 {
     HEADER_SIZE as u32 + body_length(parts, kind)
 }
@@ -46,21 +45,21 @@ pub fn byte_at(parts: &TpmParts, kind: Kind, i: usize) -> u8
     ensures { result ≡ slice_index (encode_blob kind parts.now) i }
 {
     if i < HEADER_SIZE {
-        return header(kind, body_length(parts, kind))[i];
+        return header(kind, parts.banks, body_length(parts, kind))[i];
     }
     match kind {
         Kind::Permanent => permanent_byte(parts, i - HEADER_SIZE),
         Kind::Volatile => volatile_byte(parts, i - HEADER_SIZE),
-        Kind::Saved => saved_byte(&parts.saved, i - HEADER_SIZE),
+        Kind::Saved => saved_byte(parts, i - HEADER_SIZE),
     }
 }
 
-fn header(kind: Kind, count: u32) -> [u8; HEADER_SIZE]
-    ensures { result ≡ header_of kind count }
+fn header(kind: Kind, banks: Banks, count: u32) -> [u8; HEADER_SIZE]
+    ensures { result ≡ header_of kind banks count }
 {
     let [m0, m1, m2, m3] = magic(kind);
     let [n0, n1, n2, n3] = count.to_be_bytes();
-    [m0, m1, m2, m3, VERSION, n0, n1, n2, n3]
+    [m0, m1, m2, m3, version_of(banks), n0, n1, n2, n3]
 }
 
 fn permanent_byte(parts: &TpmParts, i: usize) -> u8
@@ -85,17 +84,17 @@ fn volatile_byte(parts: &TpmParts, i: usize) -> u8
     } else if i < RUNNING_PLACE {
         long_byte(parts.draws, i - DRAWS_PLACE)
     } else {
-        counted_byte(parts.counter, &parts.pcr, i - RUNNING_PLACE)
+        counted_byte(parts.counter, &parts.pcr, &parts.pcr384, i - RUNNING_PLACE)
     }
 }
 
-fn saved_byte(saved: &Option<SavedParts>, i: usize) -> u8
-    requires { i < length (saved_body saved.now) }
-    ensures { result ≡ slice_index (saved_body saved.now) i }
+fn saved_byte(parts: &TpmParts, i: usize) -> u8
+    requires { i < length (saved_body parts.now.banks parts.now.saved) }
+    ensures { result ≡ slice_index (saved_body parts.now.banks parts.now.saved) i }
 {
-    match saved {
+    match &parts.saved {
         None => 0,
         Some(_) if i < KEPT_PLACE => 1,
-        Some(state) => counted_byte(state.counter, &state.pcr, i - KEPT_PLACE),
+        Some(state) => counted_byte(state.counter, &state.pcr, &state.pcr384, i - KEPT_PLACE),
     }
 }

@@ -1,9 +1,12 @@
 //! The numbers of the format of blobs, and the table of its places.
 
-use tpm_core::{KEPT_PCR_COUNT, SEED_SIZE, SHA256_DIGEST_SIZE};
+use tpm_core::SEED_SIZE;
 
-/// The version that stands behind the magic of a blob.
-pub const VERSION: u8 = 1;
+/// The version of the blobs of a TPM with one bank.
+pub const ONE_BANK_VERSION: u8 = 1;
+
+/// The version of the blobs of a TPM with two banks.
+pub const TWO_BANKS_VERSION: u8 = 2;
 
 /// Where the version stands.
 pub const VERSION_PLACE: usize = 4;
@@ -32,20 +35,23 @@ pub const KEPT_PLACE: usize = 1;
 /// How many bytes a counter has.
 pub const COUNTER_SIZE: usize = 4;
 
-/// How many bytes the counter and the registers of a saved state have.
-pub const KEPT_SIZE: usize = COUNTER_SIZE + SHA256_DIGEST_SIZE * KEPT_PCR_COUNT;
-
 /// How many bytes of body a permanent blob has: the seed and the count of boots.
 pub const PERMANENT_LENGTH: u32 = 40;
 
 /// How many bytes of body there are where nothing stands behind the flag.
 pub const FLAG_ALONE: u32 = 1;
 
-/// How many bytes of body the volatile blob of a started TPM has: flag, draws, counter and 24 registers.
+/// How many bytes of body the volatile blob of a started TPM with one bank has: flag, draws, counter and 24 registers.
 pub const VOLATILE_LENGTH: u32 = 781;
 
-/// How many bytes of body the blob of a saved state has: flag, counter and 16 registers.
+/// The same with two banks: 24 registers of 48 bytes more.
+pub const TWO_BANKS_VOLATILE_LENGTH: u32 = 1933;
+
+/// How many bytes of body the blob of a saved state with one bank has: flag, counter and 16 registers.
 pub const SAVED_LENGTH: u32 = 517;
 
-/// How many bytes a blob has at most: the volatile one of a started TPM.
-pub const LARGEST_BLOB: usize = 790;
+/// The same with two banks: 16 registers of 48 bytes more.
+pub const TWO_BANKS_SAVED_LENGTH: u32 = 1285;
+
+/// How many bytes a blob has at most: the volatile one of a started TPM with two banks.
+pub const LARGEST_BLOB: usize = 1942;

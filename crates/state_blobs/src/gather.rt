@@ -1,17 +1,20 @@
 //! A blob gathered from pieces.
 
-ghost use Rattle.std.specs.Prelude.{◌≡◌, ◌≤◌, ◌-◌, ◌++◌, ◌↔◌, length, take, drop, [], false, IsTrue, IfOk, IfErr, OnOk, OnErr};
+ghost use Rattle.std.specs.Prelude.{◌≡◌, ◌<◌, ◌≤◌, ◌-◌, ◌++◌, ◌↔◌, length, take, drop, [], false, IsTrue, IfOk, IfErr, OnOk, OnErr};
 ghost use Rattle.std.specs.Bool.{OnTrue, OnFalse};
-ghost use Rattle.state_blobs.specs.Assembly.{cut_at};
+ghost use Rattle.state_blobs.specs.Numbers.{version_of};
+ghost use Rattle.state_blobs.specs.Assembly.{version_in, cut_at};
 ghost use Rattle.state_blobs.specs.Encodings.{IsBlob};
 ghost use Rattle.state_blobs.specs.Partial.{body_in, AreValid};
 ghost use Rattle.state_blobs.specs.Refusals.{IsRefused, IsCut};
 
+use crate::blobs::version_of;
 use crate::body_fields::Fields;
 use crate::reading::{Reading, is_whole, read_bytes, unread};
 use crate::types::BlobFault;
 use std::alloc::{AllocError, Global};
 use std::marker::Model;
+use tpm_core::Banks;
 use vt_base::{Kind, Malformed, Why};
 
 /// Gathers the blob of one kind from pieces; seen as its kind, the bytes so far, and whether they are the whole blob.
@@ -58,10 +61,24 @@ impl Gather {
         &self.reading.fields
     }
 
+    /// The version, where it came.
+    pub(crate) fn version(&self) -> u8
+        ensures { 4 < length self.now.begun → result ≡ version_in self.now.begun }
+    {
+        version_of(self.reading.header.banks)
+    }
+
+    /// The banks that the version stands for, where it came.
+    pub(crate) fn banks(&self) -> Banks
+        ensures { 4 < length self.now.begun → version_in self.now.begun ≡ version_of result }
+    {
+        self.reading.header.banks
+    }
+
     /// How many bytes came so far.
     pub fn len(&self) -> usize
         ensures count { result ≡ length self.now.begun }
-        ensures most { result ≤ 790 }
+        ensures most { result ≤ 1942 }
     {
         self.reading.place
     }

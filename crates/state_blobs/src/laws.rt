@@ -1,6 +1,6 @@
 //! Laws of blobs, of pieces and of what three blobs make. Their calls do nothing.
 
-ghost use Rattle.std.specs.Prelude.{◌≡◌, ◌≢◌, ℕ, ◌<◌, ◌≤◌, List, ◌++◌, length, take, sum, Ok, Err};
+ghost use Rattle.std.specs.Prelude.{◌≡◌, ◌≢◌, ℕ, ◌+◌, ◌<◌, ◌≤◌, List, ◌++◌, length, take, sum, is_some, if◌then◌else◌, Ok, Err};
 ghost use Rattle.std.specs.List.{concat};
 ghost use Rattle.vt_base.specs.Numbers.{IsBytes};
 ghost use Rattle.vt_base.specs.Layout.{Encodes};
@@ -11,6 +11,7 @@ ghost use Rattle.vt_base.specs.declared.types.Malformed.{Malformed};
 ghost use Rattle.tpm_core.specs.declared.parts.TpmParts.{TpmParts};
 ghost use Rattle.tpm_core.specs.Steps.{IsValid};
 ghost use Rattle.state_blobs.specs.declared.types.BlobFault.{BlobFault};
+ghost use Rattle.state_blobs.specs.Numbers.{volatile_length, saved_length};
 ghost use Rattle.state_blobs.specs.Running.{SameRunning};
 ghost use Rattle.state_blobs.specs.Encodings.{encode_blob, slices, IsBlob};
 ghost use Rattle.state_blobs.specs.Blobs.{blob};
@@ -25,7 +26,7 @@ pub fn blobs_are_prefix_free()
     // until it is whole.
     ensures texts { (kind : Kind) (v : TpmParts) → IsValid v → IsBlob kind (encode_blob kind v) }
     ensures least { (kind : Kind) (v : TpmParts) → 10 ≤ length (encode_blob kind v) }
-    ensures most { (kind : Kind) (v : TpmParts) → IsValid v → length (encode_blob kind v) ≤ 790 }
+    ensures most { (kind : Kind) (v : TpmParts) → IsValid v → length (encode_blob kind v) ≤ 1942 }
     ensures fronts { (kind : Kind) (bytes : List ℕ) (n : ℕ) → IsBlob kind bytes → n < length bytes → IsCut kind (take n bytes) }
 
     ensures not_refused { (kind : Kind) (fault : Malformed) (bytes : List ℕ) → IsBlob kind bytes → IsRefused kind fault bytes → ⊥ }
@@ -41,9 +42,18 @@ pub fn blobs_are_prefix_free()
         Encodes (blob kind) (Err fault) prefix → IsRefused kind fault (prefix ++ more) }
 {}
 
+/// How long the blobs of a TPM are.
+#[tactic(auto, using(crate::proofs::Sizes::permanent_length, crate::proofs::Sizes::volatile_text_length, crate::proofs::Sizes::saved_text_length))]
+pub fn blobs_have_a_length()
+    ensures permanent { (v : TpmParts) → IsValid v → length (encode_blob Permanent v) ≡ 49 }
+    ensures volatile { (v : TpmParts) → IsValid v → length (encode_blob Volatile v) ≡ (if v.started then 9 + volatile_length v.banks else 10) }
+    ensures saved { (v : TpmParts) → IsValid v → length (encode_blob Saved v) ≡ (if is_some v.saved then 9 + saved_length v.banks else 10) }
+{}
+
 /// The encoding of values as a blob is injective.
-#[tactic(auto, using(crate::proofs::Once::seed_once, crate::proofs::Once::boots_once, crate::proofs::Once::running_text_once, crate::proofs::Once::saved_text_once))]
+#[tactic(auto, using(crate::proofs::Once::banks_once, crate::proofs::Once::seed_once, crate::proofs::Once::boots_once, crate::proofs::Once::running_text_once, crate::proofs::Once::saved_text_once))]
 pub fn blob_encodings_are_injective()
+    ensures banks { (kind : Kind) (v w : TpmParts) → encode_blob kind v ≡ encode_blob kind w → v.banks ≡ w.banks }
     ensures seed { (v w : TpmParts) → IsValid v → IsValid w → encode_blob Permanent v ≡ encode_blob Permanent w → v.seed ≡ w.seed }
     ensures boots { (v w : TpmParts) → IsValid v → IsValid w → encode_blob Permanent v ≡ encode_blob Permanent w → v.boots ≡ w.boots }
     ensures running { (v w : TpmParts) → IsValid v → IsValid w → encode_blob Volatile v ≡ encode_blob Volatile w → SameRunning v w }

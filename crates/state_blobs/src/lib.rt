@@ -13,8 +13,8 @@
 //! let tpm = assemble(&permanent, &volatile, &saved)?;
 //! ```
 //!
-//! The format is our own, and each value has one encoding. What the bytes are sent over, and when a TPM may be taken
-//! apart, is left to others.
+//! The format is our own, and each value has one encoding. The version of a blob says which banks its TPM has: 1 for one
+//! bank, 2 for two. What the bytes are sent over, and when a TPM may be taken apart, is left to others.
 #![tactic(auto)]
 
 mod assembly;
@@ -32,7 +32,7 @@ mod reading;
 mod types;
 
 pub use assembly::assemble;
-pub use blobs::{is_length, magic};
+pub use blobs::{banks_named, is_length, magic};
 pub use format::LARGEST_BLOB;
 pub use gather::Gather;
 pub use pieces::piece;

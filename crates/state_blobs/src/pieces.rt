@@ -35,7 +35,7 @@ pub fn piece(tpm: &Tpm, kind: Kind, offset: u32, into: &mut [u8]) -> Option<Piec
 fn write_part(parts: &TpmParts, kind: Kind, offset: usize, into: &mut [u8])
     requires fit { IsValid parts.now }
     requires there { offset + length into.old ≤ length (encode_blob kind parts.now) }
-    requires within_limit { offset + length into.old ≤ 790 }
+    requires within_limit { offset + length into.old ≤ 1942 }
     ensures { into.new ≡ slice (encode_blob kind parts.now) offset (length into.old) }
 {
     for i in 0..into.len() {

@@ -2,22 +2,30 @@
 
 ghost use Rattle.std.specs.Prelude.{◌≡◌, ◌≤◌, ◌<◌, ◌+◌, ℕ, true, List, ◌∷◌, [], ◌++◌, take, IfOk, IfErr, OnOk, OnErr};
 ghost use Rattle.vt_base.specs.Refusing.{malformed};
-ghost use Rattle.state_blobs.specs.Encodings.{header_of, is_length, flag_fits};
+ghost use Rattle.state_blobs.specs.Encodings.{flag_fits};
 ghost use Rattle.state_blobs.specs.Refusals.{IsRefused};
-ghost use Rattle.state_blobs.specs.Partial.{bytes_read, is_whole, AreValid, IsReading, ReadTheSame};
+ghost use Rattle.state_blobs.specs.Partial.{header_in, fits_header, bytes_read, is_whole, AreValid, IsReading, ReadTheSame};
 
-use crate::blobs::{flag_fits, is_length, magic};
+use crate::blobs::{banks_named, flag_fits, is_length, magic};
 use crate::body_fields::{Fields, fields_are_valid, set_byte};
-use crate::format::{FLAG_PLACE, HEADER_SIZE, LENGTH_PLACE, VERSION, VERSION_PLACE};
+use crate::format::{FLAG_PLACE, HEADER_SIZE, LENGTH_PLACE, VERSION_PLACE};
 use crate::numbers::number_with;
-use tpm_core::{PCR_COUNT, SEED_SIZE, SHA256_DIGEST_SIZE};
+use tpm_core::{Banks, PCR_COUNT, SEED_SIZE, SHA256_DIGEST_SIZE, SHA384_DIGEST_SIZE};
 use vt_base::{Kind, Malformed, Why};
 
-/// How far a blob was read: the place of the next byte, how many bytes of body the header says, and the fields.
+/// What a header says: the banks that its version stands for, and how many bytes of body there are. What wasn't read yet
+/// may have any value.
+#[derive(Clone, Copy)]
+pub struct Header {
+    pub banks: Banks,
+    pub length: u32,
+}
+
+/// How far a blob was read: the place of the next byte, the header and the fields.
 #[derive(Drop)]
 pub struct Reading {
     pub place: usize,
-    pub length: u32,
+    pub header: Header,
     pub fields: Fields,
 }
 
@@ -28,7 +36,10 @@ pub fn unread() -> Reading
 {
     let reading = Reading {
         place: 0,
-        length: 0,
+        header: Header {
+            banks: Banks::One,
+            length: 0,
+        },
         fields: Fields {
             seed: [0; SEED_SIZE],
             boots: 0,
@@ -36,6 +47,7 @@ pub fn unread() -> Reading
             draws: 0,
             counter: 0,
             pcr: [[0; SHA256_DIGEST_SIZE]; PCR_COUNT],
+            pcr384: [[0; SHA384_DIGEST_SIZE]; PCR_COUNT],
         },
     };
     fields_are_valid(&reading.fields);
@@ -46,7 +58,7 @@ pub fn unread() -> Reading
 pub fn is_whole(reading: &Reading) -> bool
     ensures { result ≡ is_whole reading.now }
 {
-    reading.place == HEADER_SIZE + reading.length as usize
+    reading.place == HEADER_SIZE + reading.header.length as usize
 }
 
 /// Reads the bytes, or refuses one of them and reads none.
@@ -73,7 +85,7 @@ fn read_byte(reading: &mut Reading, kind: Kind, byte: u8) -> Result<(), Malforme
     requires { IsReading kind reading.old }
     ensures ok { OnOk result (IsReading kind reading.new) }
     ensures read { OnOk result (bytes_read kind reading.new ≡ bytes_read kind reading.old ++ byte ∷ []) }
-    ensures length { OnOk result (9 ≤ reading.old.place → reading.new.length ≡ reading.old.length) }
+    ensures header { OnOk result (9 ≤ reading.old.place → reading.new.header ≡ reading.old.header) }
     ensures refused { IfErr result (λ fault. (rest : List ℕ) → IsRefused kind fault (bytes_read kind reading.old ++ byte ∷ rest)) }
     ensures err { OnErr result (reading.new ≡ reading.old) }
 {
@@ -93,35 +105,35 @@ fn read_header_byte(reading: &mut Reading, kind: Kind, byte: u8) -> Result<(), M
     ensures refused { IfErr result (λ fault. (rest : List ℕ) → IsRefused kind fault (bytes_read kind reading.old ++ byte ∷ rest)) }
     ensures err { OnErr result (reading.new ≡ reading.old) }
 {
-    reading.length = length_after(kind, reading.length, reading.place, byte)?;
+    reading.header = header_after(kind, reading.header, reading.place, byte)?;
     reading.place += 1;
     Ok(())
 }
 
-/// What is known of the length after a byte of the header, which may be one of the magic or the version.
-fn length_after(kind: Kind, length: u32, place: usize, byte: u8) -> Result<u32, Malformed>
+/// What is known of the header after a byte of it, which may be one of the magic.
+fn header_after(kind: Kind, header: Header, place: usize, byte: u8) -> Result<Header, Malformed>
     requires { place < 9 }
-    ensures read { IfOk result (λ next. take (place + 1) (header_of kind next) ≡ take place (header_of kind length) ++ byte ∷ []) }
-    ensures sized { IfOk result (λ next. place ≡ 8 → is_length kind next ≡ true) }
-    ensures refused { IfErr result (λ fault. (rest : List ℕ) → IsRefused kind fault (take place (header_of kind length) ++ byte ∷ rest)) }
+    ensures read { IfOk result (λ next. take (place + 1) (header_in kind next) ≡ take place (header_in kind header) ++ byte ∷ []) }
+    ensures sized { IfOk result (λ next. place ≡ 8 → fits_header kind next ≡ true) }
+    ensures refused { IfErr result (λ fault. (rest : List ℕ) → IsRefused kind fault (take place (header_in kind header) ++ byte ∷ rest)) }
 {
     if place < VERSION_PLACE {
         if byte != magic(kind)[place] {
             return Err(fault_at(Why::Magic, place));
         }
-        return Ok(length);
+        return Ok(header);
     }
     if place == VERSION_PLACE {
-        if byte != VERSION {
+        let Some(banks) = banks_named(byte) else {
             return Err(fault_at(Why::Version, place));
-        }
-        return Ok(length);
+        };
+        return Ok(Header { banks, ..header });
     }
-    let next = number_with(length, place - LENGTH_PLACE, byte);
-    if place + 1 == HEADER_SIZE && !is_length(kind, next) {
+    let length = number_with(header.length, place - LENGTH_PLACE, byte);
+    if place + 1 == HEADER_SIZE && !is_length(kind, header.banks, length) {
         return Err(fault_at(Why::Length, LENGTH_PLACE));
     }
-    Ok(next)
+    Ok(Header { length, ..header })
 }
 
 /// The same behind the header.
@@ -130,7 +142,7 @@ fn read_body_byte(reading: &mut Reading, kind: Kind, byte: u8) -> Result<(), Mal
     requires behind { 9 ≤ reading.old.place }
     ensures ok { OnOk result (IsReading kind reading.new) }
     ensures read { OnOk result (bytes_read kind reading.new ≡ bytes_read kind reading.old ++ byte ∷ []) }
-    ensures length { OnOk result (reading.new.length ≡ reading.old.length) }
+    ensures header { OnOk result (reading.new.header ≡ reading.old.header) }
     ensures refused { IfErr result (λ fault. (rest : List ℕ) → IsRefused kind fault (bytes_read kind reading.old ++ byte ∷ rest)) }
     ensures err { OnErr result (reading.new ≡ reading.old) }
 {
@@ -145,21 +157,21 @@ fn read_body_byte(reading: &mut Reading, kind: Kind, byte: u8) -> Result<(), Mal
 fn check_body_byte(reading: &Reading, kind: Kind, byte: u8) -> Result<(), Malformed>
     requires reading { IsReading kind reading.now }
     requires behind { 9 ≤ reading.now.place }
-    ensures within { OnOk result (reading.now.place < 9 + reading.now.length) }
-    ensures flagged { OnOk result (reading.now.place ≡ 9 → flag_fits kind reading.now.length byte ≡ true) }
+    ensures within { OnOk result (reading.now.place < 9 + reading.now.header.length) }
+    ensures flagged { OnOk result (reading.now.place ≡ 9 → flag_fits kind reading.now.header.length byte ≡ true) }
     ensures refused { IfErr result (λ fault. (rest : List ℕ) → IsRefused kind fault (bytes_read kind reading.now ++ byte ∷ rest)) }
 {
     if is_whole(reading) {
         return Err(fault_at(Why::Extra, reading.place));
     }
-    if reading.place == FLAG_PLACE && !flag_fits(kind, reading.length, byte) {
+    if reading.place == FLAG_PLACE && !flag_fits(kind, reading.header.length, byte) {
         return Err(fault_at(Why::Value, FLAG_PLACE));
     }
     Ok(())
 }
 
 fn fault_at(why: Why, place: usize) -> Malformed
-    requires { place ≤ 790 }
+    requires { place ≤ 1942 }
     ensures { result ≡ malformed why place }
 {
     Malformed {

@@ -9,3 +9,5 @@ mod state_blobs_tests;
 mod tpm_core_tests;
 #[cfg(test)]
 mod tpm_frame_tests;
+#[cfg(test)]
+mod two_banks_tests;

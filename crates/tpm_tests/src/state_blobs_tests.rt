@@ -6,20 +6,20 @@ ghost use Rattle.std.specs.Prelude.{◌≡◌, ◌<◌, IfOk, IfSome, length};
 use state_blobs::*;
 use std::alloc::{AllocError, Global};
 use std::test::*;
-use tpm_core::Tpm;
+use tpm_core::{Banks, Tpm};
 use vt_base::{Buf, Kind, Malformed, Why};
 
 /// The permanent blob of a TPM with a seed of zeros that power came to once.
-const PERMANENT: [u8; 49] = [
+pub(crate) const PERMANENT: [u8; 49] = [
     0x43, 0x52, 0x42, 0x50, 1, 0, 0, 0, 0x28, 0, 0, 0, 0, 0, 0, 0, 0, 0, 0, 0, 0, 0, 0, 0, 0, 0, 0,
     0, 0, 0, 0, 0, 0, 0, 0, 0, 0, 0, 0, 0, 0, 0, 0, 0, 0, 0, 0, 0, 1,
 ];
 
 /// The volatile blob of a TPM that isn't started.
-const STOPPED: [u8; 10] = [0x43, 0x52, 0x42, 0x56, 1, 0, 0, 0, 1, 0];
+pub(crate) const STOPPED: [u8; 10] = [0x43, 0x52, 0x42, 0x56, 1, 0, 0, 0, 1, 0];
 
 /// The blob of no saved state.
-const NO_STATE: [u8; 10] = [0x43, 0x52, 0x42, 0x5a, 1, 0, 0, 0, 1, 0];
+pub(crate) const NO_STATE: [u8; 10] = [0x43, 0x52, 0x42, 0x5a, 1, 0, 0, 0, 1, 0];
 
 /// What stands before the registers in the volatile blob of a started TPM that drew nothing and extended one digest.
 const RUNNING: [u8; 22] = [
@@ -30,13 +30,13 @@ const RUNNING: [u8; 22] = [
 const SAVED: [u8; 14] = [0x43, 0x52, 0x42, 0x5a, 1, 0, 0, 2, 5, 1, 0, 0, 0, 1];
 
 /// The SHA-256 of 64 zero bytes: a register of zeros after an extend by a digest of zeros.
-const EXTENDED: [u8; 32] = [
+pub(crate) const EXTENDED: [u8; 32] = [
     0xf5, 0xa5, 0xfd, 0x42, 0xd1, 0x6a, 0x20, 0x30, 0x27, 0x98, 0xef, 0x6e, 0xd3, 0x09, 0x97, 0x9b,
     0x43, 0x00, 0x3d, 0x23, 0x20, 0xd9, 0xf0, 0xe8, 0xea, 0x98, 0x31, 0xa9, 0x27, 0x59, 0xfb, 0x4b,
 ];
 
 /// TPM2_Startup(CLEAR).
-const STARTUP: [u8; 12] = [0x80, 1, 0, 0, 0, 12, 0, 0, 1, 0x44, 0, 0];
+pub(crate) const STARTUP: [u8; 12] = [0x80, 1, 0, 0, 0, 12, 0, 0, 1, 0x44, 0, 0];
 
 /// TPM2_PCR_Extend of register 0, before its digest of 32 zeros.
 const EXTEND: [u8; 33] = [
@@ -45,17 +45,17 @@ const EXTEND: [u8; 33] = [
 ];
 
 /// TPM2_Shutdown(STATE).
-const SHUTDOWN: [u8; 12] = [0x80, 1, 0, 0, 0, 12, 0, 0, 1, 0x45, 0, 1];
+pub(crate) const SHUTDOWN: [u8; 12] = [0x80, 1, 0, 0, 0, 12, 0, 0, 1, 0x45, 0, 1];
 
-fn powered() -> Tpm {
-    let mut tpm = Tpm::manufacture([0; 32]);
+pub(crate) fn powered(banks: Banks) -> Tpm {
+    let mut tpm = Tpm::manufacture([0; 32], banks);
     tpm.power_on();
     tpm
 }
 
-/// A started TPM whose register 0 was extended by zeros, and whose state is saved.
+/// A started TPM with one bank whose register 0 was extended by zeros, and whose state is saved.
 fn running(alloc: Global) -> Result<Tpm, Fail> {
-    let mut tpm = powered();
+    let mut tpm = powered(Banks::One);
     let mut into = Buf::new(alloc)?;
     tpm.execute(&STARTUP, &mut into);
     let mut extend = [0; 65];
@@ -75,7 +75,7 @@ fn gathered(alloc: Global, kind: Kind, bytes: &[u8]) -> Result<Option<Gather>, A
 }
 
 /// Whether a TPM gives a blob whole, with nothing written behind it, and none past its end.
-fn is_given_whole(tpm: &Tpm, kind: Kind, blob: &[u8]) -> bool
+pub(crate) fn is_given_whole(tpm: &Tpm, kind: Kind, blob: &[u8]) -> bool
     requires { length blob.now < 60 }
 {
     let total = blob.len() as u32;
@@ -96,7 +96,7 @@ fn is_given_whole(tpm: &Tpm, kind: Kind, blob: &[u8]) -> bool
 }
 
 /// Whether a TPM gives a blob byte by byte.
-fn is_given_singly(tpm: &Tpm, kind: Kind, blob: &[u8]) -> bool
+pub(crate) fn is_given_singly(tpm: &Tpm, kind: Kind, blob: &[u8]) -> bool
     requires { length blob.now < 60 }
 {
     let total = blob.len() as u32;
@@ -111,7 +111,7 @@ fn is_given_singly(tpm: &Tpm, kind: Kind, blob: &[u8]) -> bool
 }
 
 /// Whether a gather takes a blob whole, and byte by byte with empty pieces between.
-fn is_gathered(gather: &mut Gather, blob: &[u8]) -> bool {
+pub(crate) fn is_gathered(gather: &mut Gather, blob: &[u8]) -> bool {
     if gather.push(blob) != Ok(true) || !gather.is_whole() || gather.len() != blob.len() {
         return false;
     }
@@ -137,7 +137,7 @@ const BLOBS: [(Kind, &[u8]); 3] = [
 
 #[test]
 fn pieces_of_a_new_tpm_join_to_its_blobs(rt: HostRuntime) -> Result<(), Fail> {
-    let tpm = powered();
+    let tpm = powered(Banks::One);
     for (kind, blob) in BLOBS {
         assert!(rt; blob.len() < 60);
         assert!(rt; is_given_whole(&tpm, kind, blob), "{kind:?}");
@@ -149,15 +149,15 @@ fn pieces_of_a_new_tpm_join_to_its_blobs(rt: HostRuntime) -> Result<(), Fail> {
 }
 
 /// From a place on there are so many of this byte.
-fn are(bytes: &[u8], from: usize, count: usize, byte: u8) -> bool {
+pub(crate) fn are(bytes: &[u8], from: usize, count: usize, byte: u8) -> bool {
     bytes.iter().skip(from).take(count).all(|b| *b == byte)
 }
 
 /// The volatile blob of a started TPM, and that of its saved state, as the TPM gives them.
 #[derive(Clone, Copy)]
-struct StartedBlobs {
-    volatile: [u8; 790],
-    saved: [u8; 526],
+pub(crate) struct StartedBlobs {
+    pub(crate) volatile: [u8; 790],
+    pub(crate) saved: [u8; 526],
 }
 
 fn given(tpm: &Tpm) -> Option<StartedBlobs> {
@@ -177,7 +177,7 @@ fn given(tpm: &Tpm) -> Option<StartedBlobs> {
 }
 
 /// Those of the TPM that is running.
-fn given_by_running(alloc: Global) -> Result<StartedBlobs, Fail> {
+pub(crate) fn given_by_running(alloc: Global) -> Result<StartedBlobs, Fail> {
     let tpm = running(alloc)?;
     Ok(given(&tpm).ok_or("the blobs")?)
 }
@@ -219,6 +219,7 @@ fn is_made_of(other: &Tpm, blobs: &StartedBlobs) -> bool {
         && parts.seed == [0; 32]
         && parts.boots == 1
         && parts.draws == 0
+        && parts.banks == Banks::One
         && parts.started
         && parts.counter == 1
         && parts.saved.is_some()
@@ -227,7 +228,7 @@ fn is_made_of(other: &Tpm, blobs: &StartedBlobs) -> bool {
 }
 
 /// What comes of gathers that took these bytes, unless one refuses them.
-fn assembled(
+pub(crate) fn assembled(
     alloc: Global,
     permanent: &[u8],
     volatile: &[u8],
@@ -266,7 +267,7 @@ fn is_refused_singly(gather: &mut Gather, bytes: &[u8], fault: Malformed) -> boo
 }
 
 /// Whether these bytes are refused so, pushed whole and byte by byte.
-fn is_refused(gather: &mut Gather, bytes: &[u8], fault: Malformed) -> bool {
+pub(crate) fn is_refused(gather: &mut Gather, bytes: &[u8], fault: Malformed) -> bool {
     gather.push(bytes) == Err(fault)
         && gather.is_empty()
         && !gather.is_whole()
@@ -282,7 +283,7 @@ const REFUSALS: [(Kind, &str, Why, u32); 21] = [
     (Kind::Permanent, "4352425601", Why::Magic, 3),
     (Kind::Saved, "4352425602", Why::Magic, 3),
     // the version, before a length that is wrong too
-    (Kind::Permanent, "435242500200000000", Why::Version, 4),
+    (Kind::Permanent, "435242500300000000", Why::Version, 4),
     (Kind::Saved, "4352425a00", Why::Version, 4),
     // the length, checked when it is whole
     (Kind::Permanent, "435242500100000029", Why::Length, 5),
@@ -346,7 +347,7 @@ fn a_byte_behind_the_longest_permanent_blob(rt: HostRuntime) -> Result<(), Fail>
 }
 
 /// Whether these bytes have this fault, or none.
-fn has_fault(
+pub(crate) fn has_fault(
     alloc: Global,
     permanent: &[u8],
     volatile: &[u8],
@@ -360,7 +361,7 @@ fn has_fault(
     })
 }
 
-fn at(kind: Kind, why: Why, place: u32) -> Option<BlobFault> {
+pub(crate) fn at(kind: Kind, why: Why, place: u32) -> Option<BlobFault> {
     Some(BlobFault {
         kind,
         fault: Malformed { why, place },

@@ -357,9 +357,119 @@ const CLEARED: [(&str, &str); 1] = [
 /// Power again.
 const GONE: [(&str, &str); 1] = [("80010000000c000001440001", "80010000000a000001c4")];
 
+/// A TPM with two banks: an extend of register 0 by 48 zeros, and a read of it.
+const FIRST_OF_TWO: [(&str, &str); 3] = [
+    ("80010000000c000001440000", "80010000000a00000000"),
+    (
+        "80020000005100000182000000000000000940000009000001000000000001000c00000000000000\
+         00000000000000000000000000000000000000000000000000000000000000000000000000000000\
+         00",
+        "80020000001300000000000000000000010000",
+    ),
+    (
+        "8001000000140000017e00000001000c03010000",
+        "80010000004e000000000000000100000001000c03010000000000010030f57bb7ed82c6ae4a29e6\
+         c9879338c592c7d42a39135583e8ccbe3940f2344b0eb6eb8503db0ffd6a39ddd00cd07d8317",
+    ),
+];
+
+/// The same to a TPM with one bank: the algorithm is unknown.
+const FIRST_OF_ONE: [(&str, &str); 3] = [
+    ("80010000000c000001440000", "80010000000a00000000"),
+    (
+        "80020000005100000182000000000000000940000009000001000000000001000c00000000000000\
+         00000000000000000000000000000000000000000000000000000000000000000000000000000000\
+         00",
+        "80010000000a000001c3",
+    ),
+    (
+        "8001000000140000017e00000001000c03010000",
+        "80010000000a000001c3",
+    ),
+];
+
+/// Both banks are extended, read and kept.
+const BOTH: [(&str, &str); 6] = [
+    ("80010000000c000001440000", "80010000000a00000000"),
+    // each digest goes into the bank of its algorithm, and each is counted
+    (
+        "8002000000a500000182000000030000000940000009000001000000000003000bca978112ca1bbd\
+         cafac231b39a23dc4da786eff8147c4e72b9807785afee48bb000c54a59b9f22b0b80880d8427e54\
+         8b7c23abd873486e1f035dce9cd697e85175033caa88e6d57bc35efae0b5afd3145f31000c98a906\
+         182cdcfb1eb4eb47117600f68958e2ddd140248b47984f4bde6587b89c8215c3da895a336e94ad1a\
+         ca39015c40",
+        "80020000001300000000000000000000010000",
+    ),
+    (
+        "80010000001a0000017e00000002000c03080000000b03080000",
+        "800100000076000000000000000300000002000c03080000000b03080000000000020030941baacd\
+         1efc683b7bb6335428caa38156c9ebaf035df192fe8c89056f247fba20f0576d54c94ef52bdfd156\
+         ccbd67a300208c374a53782642f7514d087d26a3e733f1b806009a03e04a43b288ef2fa9f9c0",
+    ),
+    // eight digests are read of both banks together
+    (
+        "80010000001a0000017e00000002000c03ff0000000b03080000",
+        "8001000001b2000000000000000300000002000c03ff0000000b0300000000000008003000000000\
+         00000000000000000000000000000000000000000000000000000000000000000000000000000000\
+         00000000003000000000000000000000000000000000000000000000000000000000000000000000\
+         00000000000000000000000000000030000000000000000000000000000000000000000000000000\
+         0000000000000000000000000000000000000000000000000030941baacd1efc683b7bb6335428ca\
+         a38156c9ebaf035df192fe8c89056f247fba20f0576d54c94ef52bdfd156ccbd67a3003000000000\
+         00000000000000000000000000000000000000000000000000000000000000000000000000000000\
+         00000000003000000000000000000000000000000000000000000000000000000000000000000000\
+         00000000000000000000000000000030000000000000000000000000000000000000000000000000\
+         00000000000000000000000000000000000000000000000000300000000000000000000000000000\
+         00000000000000000000000000000000000000000000000000000000000000000000",
+    ),
+    // 17 to 22 have each bit set
+    (
+        "80010000001a0000017e00000002000b03000602000c0300007f",
+        "800100000182000000000000000300000002000b03000602000c0300001f00000008002000000000\
+         00000000000000000000000000000000000000000000000000000000002000000000000000000000\
+         000000000000000000000000000000000000000000000020ffffffffffffffffffffffffffffffff\
+         ffffffffffffffffffffffffffffffff003000000000000000000000000000000000000000000000\
+         00000000000000000000000000000000000000000000000000000030ffffffffffffffffffffffff\
+         ffffffffffffffffffffffffffffffffffffffffffffffffffffffffffffffffffffffff0030ffff\
+         ffffffffffffffffffffffffffffffffffffffffffffffffffffffffffffffffffffffffffffffff\
+         ffffffffffff0030ffffffffffffffffffffffffffffffffffffffffffffffffffffffffffffffff\
+         ffffffffffffffffffffffffffffffff0030ffffffffffffffffffffffffffffffffffffffffffff\
+         ffffffffffffffffffffffffffffffffffffffffffffffffffff",
+    ),
+    ("80010000000c000001450001", "80010000000a00000000"),
+];
+
+/// After power came on again.
+const BOTH_RESTORED: [(&str, &str); 5] = [
+    ("80010000000c000001440001", "80010000000a00000000"),
+    (
+        "80010000001a0000017e00000002000b03080000000c03080001",
+        "8001000000a8000000000000000300000002000b03080000000c030800010000000300208c374a53\
+         782642f7514d087d26a3e733f1b806009a03e04a43b288ef2fa9f9c00030941baacd1efc683b7bb6\
+         335428caa38156c9ebaf035df192fe8c89056f247fba20f0576d54c94ef52bdfd156ccbd67a30030\
+         00000000000000000000000000000000000000000000000000000000000000000000000000000000\
+         0000000000000000",
+    ),
+    (
+        "8001000000140000017e00000001000c03000040",
+        "80010000004e000000000000000300000001000c03000040000000010030ffffffffffffffffffff\
+         ffffffffffffffffffffffffffffffffffffffffffffffffffffffffffffffffffffffffffff",
+    ),
+    ("80010000000c000001450001", "80010000000a00000000"),
+    // an extend of one bank alone makes what was kept stale
+    (
+        "80020000005100000182000000100000000940000009000001000000000001000c54a59b9f22b0b8\
+         0880d8427e548b7c23abd873486e1f035dce9cd697e85175033caa88e6d57bc35efae0b5afd3145f\
+         31",
+        "80020000001300000000000000000000010000",
+    ),
+];
+
+/// Power again: nothing is there to be brought back.
+const BOTH_STALE: [(&str, &str); 1] = [("80010000000c000001440001", "80010000000a000001c4")];
+
 /// A TPM with a seed of zeros that power came to once.
-fn powered() -> Tpm {
-    let mut tpm = Tpm::manufacture([0; 32]);
+fn powered(banks: Banks) -> Tpm {
+    let mut tpm = Tpm::manufacture([0; 32], banks);
     tpm.power_on();
     tpm
 }
@@ -412,8 +522,10 @@ const FIRST: [&[(&str, &str)]; 3] = [&FIRST_EXTEND, &REFUSED_EXTENDS, &FIRST_BLO
 #[test]
 fn first_commands(rt: HostRuntime) -> Result<(), Fail> {
     for table in FIRST {
-        let mut tpm = powered();
-        assert_eq!(rt; wrong(rt.alloc(), &mut tpm, table)?, None);
+        for banks in [Banks::One, Banks::Two] {
+            let mut tpm = powered(banks);
+            assert_eq!(rt; wrong(rt.alloc(), &mut tpm, table)?, None);
+        }
     }
     Ok(())
 }
@@ -424,7 +536,7 @@ fn a_session_of_commands_has_the_expected_responses(rt: HostRuntime) -> Result<(
     for i in 0..32 {
         seed[i] = i as u8;
     }
-    let mut tpm = Tpm::manufacture(seed);
+    let mut tpm = Tpm::manufacture(seed, Banks::Two);
     tpm.power_on();
     assert_eq!(rt; wrong(rt.alloc(), &mut tpm, &SESSION)?, None);
     Ok(())
@@ -432,7 +544,7 @@ fn a_session_of_commands_has_the_expected_responses(rt: HostRuntime) -> Result<(
 
 #[test]
 fn each_malformed_command_has_its_response_code(rt: HostRuntime) -> Result<(), Fail> {
-    let mut tpm = powered();
+    let mut tpm = powered(Banks::One);
     let tables: [&[(&str, &str)]; 3] = [
         &REFUSED_BEFORE_START,
         &FIRST_BLOCK[..1],
@@ -447,10 +559,12 @@ fn made_of(tpm: &Tpm) -> Tpm {
     let parts = tpm.parts();
     Tpm::of_parts(TpmParts {
         seed: parts.seed,
+        banks: parts.banks,
         boots: parts.boots,
         draws: parts.draws,
         started: parts.started,
         pcr: parts.pcr,
+        pcr384: parts.pcr384,
         counter: parts.counter,
         saved: parts.saved,
     })
@@ -461,7 +575,7 @@ const TIMES: [&[(&str, &str)]; 5] = [&RESTORED, &STALE, &FORGOTTEN, &CLEARED, &G
 
 #[test]
 fn a_saved_state_is_restored_by_startup_state(rt: HostRuntime) -> Result<(), Fail> {
-    let mut tpm = powered();
+    let mut tpm = powered(Banks::Two);
     assert_eq!(rt; wrong(rt.alloc(), &mut tpm, &KEPT)?, None);
     let mut tpm = made_of(&tpm);
     for table in TIMES {
@@ -472,8 +586,29 @@ fn a_saved_state_is_restored_by_startup_state(rt: HostRuntime) -> Result<(), Fai
 }
 
 #[test]
+fn a_second_bank_is_there_where_it_was_made(rt: HostRuntime) -> Result<(), Fail> {
+    let mut tpm = powered(Banks::One);
+    assert_eq!(rt; wrong(rt.alloc(), &mut tpm, &FIRST_OF_ONE)?, None);
+    let mut tpm = powered(Banks::Two);
+    assert_eq!(rt; wrong(rt.alloc(), &mut tpm, &FIRST_OF_TWO)?, None);
+    Ok(())
+}
+
+#[test]
+fn both_banks_are_extended_read_and_kept(rt: HostRuntime) -> Result<(), Fail> {
+    let mut tpm = powered(Banks::Two);
+    assert_eq!(rt; wrong(rt.alloc(), &mut tpm, &BOTH)?, None);
+    let mut tpm = made_of(&tpm);
+    tpm.power_on();
+    assert_eq!(rt; wrong(rt.alloc(), &mut tpm, &BOTH_RESTORED)?, None);
+    tpm.power_on();
+    assert_eq!(rt; wrong(rt.alloc(), &mut tpm, &BOTH_STALE)?, None);
+    Ok(())
+}
+
+#[test]
 fn a_seed_is_not_shown(rt: HostRuntime) -> Result<(), Fail> {
-    let tpm = Tpm::manufacture([7; SEED_SIZE]);
+    let tpm = Tpm::manufacture([7; SEED_SIZE], Banks::Two);
     let parts = tpm.parts();
     let text = "TpmParts { boots: 0, draws: 0, started: false, counter: 0, saved: false, .. }";
     assert_eq!(rt; format!(in rt.alloc(); "{parts:?}")?.as_str(), text);

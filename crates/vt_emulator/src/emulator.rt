@@ -10,7 +10,7 @@ use ctrl_codec::{FedRequest, Out, RequestReader};
 use ctrl_model::{BAD_ORDINAL, BAD_PARAMETER, LARGEST_PIECE};
 use std::alloc::{AllocError, Global};
 use std::marker::Model;
-use tpm_core::{SEED_SIZE, Tpm};
+use tpm_core::{Banks, SEED_SIZE, Tpm};
 use tpm_frame::Took;
 use vt_base::Buf;
 
@@ -33,15 +33,21 @@ impl Model for Emulator {
 }
 
 impl Emulator {
-    /// An emulator that is off, with a TPM that power never came to. One reply has at most `piece` bytes of a blob.
-    pub fn new(alloc: Global, seed: [u8; SEED_SIZE], piece: u32) -> Result<Emulator, AllocError>
+    /// An emulator that is off, with a TPM of these banks that power never came to. One reply has at most `piece` bytes
+    /// of a blob.
+    pub fn new(
+        alloc: Global,
+        seed: [u8; SEED_SIZE],
+        banks: Banks,
+        piece: u32,
+    ) -> Result<Emulator, AllocError>
         requires least { 1 ≤ piece }
         requires most { piece ≤ LARGEST_PIECE }
-        ensures { IfOk result (λ e. e ≡ fresh_emulator (Some (manufactured seed)) piece) }
+        ensures { IfOk result (λ e. e ≡ fresh_emulator (Some (manufactured seed banks)) piece) }
     {
         Ok(Emulator {
             reader: RequestReader::new(alloc)?,
-            core: EmulatorCore::new(alloc, Some(Tpm::manufacture(seed)), piece)?,
+            core: EmulatorCore::new(alloc, Some(Tpm::manufacture(seed, banks)), piece)?,
         })
     }
 

@@ -1,7 +1,7 @@
 //! The emulator: a TPM behind control messages and commands.
 //!
 //! ```text
-//! let mut emulator = Emulator::new(alloc, seed, 4096)?;
+//! let mut emulator = Emulator::new(alloc, seed, Banks::Two, 4096)?;
 //! let mut out = Out::new();
 //! let heard = emulator.control(&request, &mut out);
 //! // send out.bytes(); where heard.closed, nothing more is heard

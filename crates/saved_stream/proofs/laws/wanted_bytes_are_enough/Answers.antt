@@ -11,6 +11,7 @@ use Rattle.crb_history.specs.Snapshot.{Snapshot}
 use Rattle.saved_stream.specs.Streams.{IsStream}
 use Rattle.saved_stream.specs.Refusals.{IsStreamRefused}
 use Rattle.saved_stream.specs.Headers.{wanted_after, EndsNoStream}
+use Rattle.saved_stream.proofs.HeadersRead.{wanted_few}
 use Rattle.saved_stream.proofs.laws.wanted_bytes_are_enough.Goals as goal
 
 abbrev Behind : Type 0
@@ -55,5 +56,6 @@ returns c =
                 let front : take (length bytes) (take place (bytes ++ more)) ≡ bytes = take-take (length bytes) place (bytes ++ more) (omega (arith, gt)) ∙ take_at bytes more (length bytes) refl in
                 omega (arith, whole, few, less, length-append bytes more, ap wanted_after front, laws.within (take place (bytes ++ more)) b (length bytes) is inside)
           ];
+      few = wanted_few;
       refused = λ bytes rest fault fits none stopped is. in_front laws.behind laws.cut_wants laws.stays bytes rest fault.why fault.place fits none stopped is;
     }

@@ -3,4 +3,4 @@ use Rattle.state_blobs.specs.Partial.{kept_in}
 use Rattle.state_blobs.proofs.assembly.first_difference.Given as goal
 
 abbrev pub invariant-loop-i : goal.invariant-loop-i
-invariant-loop-i l = take l.i (kept_in l.saved) ≡ take l.i (kept_in l.running)
+invariant-loop-i l = take l.i (kept_in l.banks l.saved) ≡ take l.i (kept_in l.banks l.running)

@@ -9,7 +9,7 @@ pub returns-in-Err-clause-reading : goal.returns-in-Err-clause-reading
 returns-in-Err-clause-reading c =
     let now : IsReading c.args.kind c.read_byte.new.reading = subst (IsReading c.args.kind) (sym c.in-Err.ensures.err) c.loop-byte.invariant.reading in
     reads_taken_back c.args.kind c.args.reading.now c.read_byte.new.reading c.requires now (take c.loop-byte.byte-index c.args.bytes.now)
-    (rw c.in-Err.ensures.err c.loop-byte.invariant.read) (rw c.in-Err.ensures.err c.loop-byte.invariant.length)
+    (rw c.in-Err.ensures.err c.loop-byte.invariant.read) (rw c.in-Err.ensures.err c.loop-byte.invariant.header)
 
 pub returns-in-Err-clause-refused : goal.returns-in-Err-clause-refused
 returns-in-Err-clause-refused c =
@@ -27,7 +27,7 @@ pub returns-in-Err-clause-err : goal.returns-in-Err-clause-err
 returns-in-Err-clause-err c =
     let now : IsReading c.args.kind c.read_byte.new.reading = subst (IsReading c.args.kind) (sym c.in-Err.ensures.err) c.loop-byte.invariant.reading in
     same_taken_back c.args.kind c.args.reading.now c.read_byte.new.reading c.requires now (take c.loop-byte.byte-index c.args.bytes.now)
-    (rw c.in-Err.ensures.err c.loop-byte.invariant.read) (rw c.in-Err.ensures.err c.loop-byte.invariant.length)
+    (rw c.in-Err.ensures.err c.loop-byte.invariant.read) (rw c.in-Err.ensures.err c.loop-byte.invariant.header)
 
 pub loop-byte-preserved : goal.loop-byte-preserved
 loop-byte-preserved c =
@@ -35,12 +35,12 @@ loop-byte-preserved c =
     let bytes = c.args.bytes.now in
     let old = bytes_read c.args.kind c.args.reading.now in
     let before : c.args.reading.now.place ≤ c.loop-byte.reading.place =
-    earlier c.args.kind c.args.reading.now c.loop-byte.reading c.requires c.loop-byte.invariant.reading (take i bytes) c.loop-byte.invariant.read c.loop-byte.invariant.length in
+    earlier c.args.kind c.args.reading.now c.loop-byte.reading c.requires c.loop-byte.invariant.reading (take i bytes) c.loop-byte.invariant.read c.loop-byte.invariant.header in
     record {
       reading = c.in_default.ensures.ok;
       read = c.in_default.ensures.read
           ∙ ap (λ (prefix : List ℕ). prefix ++ get_or bytes i 0 ∷ []) c.loop-byte.invariant.read
           ∙ append_assoc old (take i bytes) (get_or bytes i 0 ∷ [])
           ∙ ap (λ (prefix : List ℕ). old ++ prefix) (sym (take_more bytes i 0 c.loop-byte-test.true));
-      length = λ le. c.in_default.ensures.length (omega (arith, le, before)) ∙ c.loop-byte.invariant.length le;
+      header = λ le. c.in_default.ensures.header (omega (arith, le, before)) ∙ c.loop-byte.invariant.header le;
     }

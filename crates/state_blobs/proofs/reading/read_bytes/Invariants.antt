@@ -6,5 +6,5 @@ abbrev pub invariant-loop-byte : goal.invariant-loop-byte
 invariant-loop-byte l = record {
   reading : IsReading l.kind l.reading;
   read : bytes_read l.kind l.reading ≡ bytes_read l.kind l.initial.reading ++ take l.byte-index l.bytes;
-  length : 9 ≤ l.initial.reading.place → l.reading.length ≡ l.initial.reading.length;
+  header : 9 ≤ l.initial.reading.place → l.reading.header ≡ l.initial.reading.header;
 }
