@@ -22,6 +22,7 @@ use Rattle.crb_machine.specs.Model.{DeviceModel}
 use Rattle.device_record.specs.Records.{before, trimmed, encode_record}
 use Rattle.tpm_core.specs.declared.parts.TpmParts.{TpmParts}
 use Rattle.tpm_core.specs.Steps.{IsValid}
+use Rattle.state_blobs.specs.Numbers.{largest_blob}
 use Rattle.state_blobs.specs.Encodings.{encode_blob}
 use Rattle.ctrl_client.specs.declared.fault.ClientFault.{ClientFault}
 use Rattle.ctrl_model.specs.Emulator.{EmulatorState}
@@ -94,7 +95,7 @@ none_bad a b c d fa fb fc fd =
 -- what is known of the lengths of blobs
 pub record BlobSizes : Type 0 where
   pub least : (k : Kind) (t : TpmParts) → 10 ≤ length (encode_blob k t)
-  pub most : (k : Kind) (t : TpmParts) → IsValid t → length (encode_blob k t) ≤ 790
+  pub most : (k : Kind) (t : TpmParts) → IsValid t → length (encode_blob k t) ≤ largest_blob
 
 offer_good : BlobSizes → (values : DeviceValues) (tpm : TpmParts) → AreValid values → IsValid tpm → first_bad (lengths (offered_by values tpm)) ≡ None
 offer_good sizes values tpm fit fit_too =

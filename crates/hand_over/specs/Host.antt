@@ -1,7 +1,8 @@
 -- One host: what each call makes of it.
 use Rattle.std.specs.Prelude.{ℕ, ◌+◌, ◌==◌, ◌&&◌, Bool, true, false, nat_lt, nat_le, if◌then◌else◌, List, length, Option, Some, None}
 use Rattle.hand_over.specs.Parts.{Parts, PieceSizes, size_for, part_of, part_after, part_number, nothing, lengths, total_of, slice, put, first_bad}
-use Rattle.move_core.specs.Sides as sides
+pub use Rattle.move_core.specs.Sides.{other, is_same}
+pub use Rattle.move_core.specs.Messages.{message_from}
 use Rattle.vt_base.specs.declared.types.HostName.{HostName}
 use Rattle.move_codec.specs.declared.names.Part.{Part}
 use Rattle.move_codec.specs.declared.names.Part.TheVariants.{Record}
@@ -25,9 +26,6 @@ pub record HostState : Type 0 where
   pub next : Part  -- the part that comes next,
   pub place : ℕ  -- and how much of it is there
 
-abbrev pub other : HostName → HostName
-other n = sides.other n
-
 -- a host after a call, with its answer
 pub record After : Type 0 where
   pub host : HostState
@@ -35,9 +33,6 @@ pub record After : Type 0 where
 
 abbrev pub answered : HostState → Delivered → After
 answered h answer = record { host = h; answer = answer }
-
-abbrev pub message_from : HostName → ℕ → Body → Message
-message_from me epoch says = record { to = other me; epoch = epoch; body = says }
 
 abbrev pub sends : HostName → HostState → ℕ → Body → After
 sends me h epoch says = answered h (Sent (message_from me epoch says))
@@ -151,9 +146,6 @@ on_message me size h epoch body.Prepared fault = on_prepared me h.side h epoch
 on_message me size h epoch body.Commit fault = on_commit h.side h epoch
 on_message me size h epoch body.Abort fault = on_abort h.side h epoch
 on_message me size h epoch (body.Refuse why value) fault = on_refuse h.side h epoch
-
-abbrev pub is_same : HostName → HostName → Bool
-is_same n k = sides.is_same n k
 
 -- one delivery of any message. The last argument is what the store answers, if it is asked and refuses
 abbrev pub delivered : HostName → PieceSizes → HostState → Message → Option Refusal → After

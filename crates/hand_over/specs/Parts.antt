@@ -1,7 +1,7 @@
 -- The four parts of what a move carries.
-use Rattle.std.specs.Prelude.{ℕ, ◌&&◌, not, Bool, nat_lt, nat_le, List, [], ◌∷◌, ◌++◌, length, take, drop, slice_index, Option}
-use Rattle.std.specs.List.{position_from}
-use Rattle.move_core.specs.Sides as sides
+use Rattle.std.specs.Prelude.{ℕ, List, [], ◌∷◌, ◌++◌, length, take}
+pub use Rattle.state_blobs.specs.Encodings.{slice}
+pub use Rattle.move_core.specs.Sides.{part_number, part_after, total_of, first_bad}
 use Rattle.move_codec.specs.declared.names.Part.{Part}
 use Rattle.move_codec.specs.declared.names.Part.TheVariants.{Record, Permanent, Volatile, Saved}
 
@@ -17,26 +17,12 @@ part_of parts Permanent = parts.permanent
 part_of parts Volatile = parts.volatile
 part_of parts Saved = parts.saved
 
-abbrev pub part_number : Part → ℕ
-part_number part = sides.part_number part
-
--- the part that follows
-abbrev pub part_after : Part → Option Part
-part_after part = sides.part_after part
-
 abbrev pub nothing : Parts
 nothing = record { record_bytes = []; permanent = []; volatile = []; saved = [] }
 
 -- the lengths of the parts, as an offer says them
 abbrev pub lengths : Parts → List ℕ
 lengths parts = length parts.record_bytes ∷ length parts.permanent ∷ length parts.volatile ∷ length parts.saved ∷ []
-
-abbrev pub total_of : List ℕ → Part → ℕ
-total_of totals part = slice_index totals (part_number part)
-
--- the bytes from a place on, at most so many
-abbrev pub slice : List ℕ → ℕ → ℕ → List ℕ
-slice xs offset size = take size (drop offset xs)
 
 -- bytes put at the end of a part
 abbrev pub put : Parts → Part → List ℕ → Parts
@@ -51,13 +37,6 @@ filled parts Record place = record { record_bytes = take place parts.record_byte
 filled parts Permanent place = record { record_bytes = parts.record_bytes; permanent = take place parts.permanent; volatile = []; saved = [] }
 filled parts Volatile place = record { record_bytes = parts.record_bytes; permanent = parts.permanent; volatile = take place parts.volatile; saved = [] }
 filled parts Saved place = record { record_bytes = parts.record_bytes; permanent = parts.permanent; volatile = parts.volatile; saved = take place parts.saved }
-
--- the first total that no part may have
-abbrev pub is_bad : ℕ → Bool
-is_bad total = not (nat_lt 0 total && nat_le total 4096)
-
-abbrev pub first_bad : List ℕ → Option ℕ
-first_bad totals = position_from is_bad 0 totals
 
 -- how many bytes a piece of the record has at most, and a piece of a blob
 pub record PieceSizes : Type 0 where

@@ -1,5 +1,6 @@
 pub mod Requests
 pub mod Sides
+pub mod Messages
 pub mod Model
 pub mod Parts
 pub mod Hosts

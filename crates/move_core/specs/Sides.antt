@@ -69,7 +69,7 @@ kind_in Saved = Some kind.Saved
 abbrev pub total_of : List ℕ → Part → ℕ
 total_of totals part = slice_index totals (part_number part)
 
--- a length that no part may have: the longest record has 3991 bytes, and the longest blob 790
+-- a length that no part may have: the longest record has 3991 bytes, and the longest blob 1942
 abbrev pub is_bad : ℕ → Bool
 is_bad total = not (nat_lt 0 total && nat_le total 4096)
 

@@ -1,6 +1,6 @@
 -- The table of deliveries: the row for each message at each side, the request that it makes, and what follows by each answer of
 -- the emulator. docs/MIGRATION.md has it in words. (Own definitions.)
-use Rattle.std.specs.Prelude.{ℕ, ◌+◌, ◌==◌, ◌&&◌, Bool, true, false, nat_lt, nat_le, if◌then◌else◌, List, [], ◌++◌, length, Option, Some, None, Result, Ok, Err}
+use Rattle.std.specs.Prelude.{ℕ, ◌+◌, ◌==◌, ◌&&◌, Bool, true, false, nat_lt, if◌then◌else◌, List, [], ◌++◌, length, Option, Some, None, Result, Ok, Err}
 use Rattle.vt_base.specs.declared.types.Malformed.{Malformed}
 use Rattle.vt_base.specs.declared.types.Kind.{Kind}
 use Rattle.vt_base.specs.declared.types.Kind.TheVariants as kind
@@ -8,7 +8,6 @@ use Rattle.crb_machine.specs.Values.{DeviceValues}
 use Rattle.state_blobs.specs.Encodings.{slice}
 use Rattle.ctrl_client.specs.declared.fault.ClientFault.{ClientFault}
 use Rattle.ctrl_client.specs.declared.fault.ClientFault.TheVariants.{Link, Result as BadResult, Reply as BadReply}
-use Rattle.vt_base.specs.declared.types.HostName.{HostName}
 use Rattle.move_codec.specs.declared.names.Part.{Part}
 use Rattle.move_codec.specs.declared.names.Part.TheVariants.{Record, Permanent, Volatile, Saved}
 use Rattle.vt_base.specs.declared.types.Reason.{Reason}
@@ -21,7 +20,8 @@ use Rattle.move_core.specs.declared.stage.MoveStage.TheVariants.{Empty, Running,
 use Rattle.move_core.specs.declared.answers.Delivered.{Delivered}
 use Rattle.move_core.specs.declared.answers.Delivered.TheVariants as delivers
 use Rattle.move_core.specs.Model.{HostModel}
-use Rattle.move_core.specs.Sides.{other, is_same, is_active, part_number, part_after, total_of, first_bad}
+use Rattle.move_core.specs.Sides.{is_same, is_active, part_after, total_of, first_bad}
+pub use Rattle.move_core.specs.Messages.{message_from, is_next}
 use Rattle.move_core.specs.Hosts.{restored}
 use Rattle.move_core.specs.declared.asking.Fetched.{Fetched}
 
@@ -47,9 +47,6 @@ answers h answer = record { host = h; answer = answer; goes_on = false }
 
 abbrev pub resumes : {P : Type 0} → HostModel P → Delivered → After P
 resumes h answer = record { host = h; answer = answer; goes_on = true }
-
-abbrev pub message_from : HostName → ℕ → Body → Message
-message_from me epoch says = record { to = other me; epoch = epoch; body = says }
 
 abbrev pub sends : {P : Type 0} → HostModel P → ℕ → Body → After P
 sends h epoch says = answers h (delivers.Sent (message_from h.name epoch says))
@@ -119,10 +116,6 @@ on_need h (Offering e totals) epoch part offset =
 on_need h _ epoch part offset = ignored h
 
 -- ---- Piece
-
--- the piece is the next one, and doesn't pass the length of its part
-abbrev pub is_next : List ℕ → Part → ℕ → Part → ℕ → ℕ → Bool
-is_next totals next place part offset size = part_number part == part_number next && (offset == place && nat_le (place + size) (total_of totals next))
 
 -- the next bytes of a part are asked for
 abbrev pub wants : {P : Type 0} → HostModel P → ℕ → List ℕ → Part → ℕ → After P

@@ -14,7 +14,7 @@ use Rattle.move_core.specs.declared.stage.MoveStage.TheVariants as stage
 use Rattle.move_core.specs.declared.answers.Delivered.{Delivered}
 use Rattle.move_core.specs.declared.answers.Delivered.TheVariants as delivers
 use Rattle.move_core.specs.Sides.{is_active, total_of, part_after, first_bad}
-use Rattle.move_core.specs.Table.{is_next}
+use Rattle.move_core.specs.Messages.{is_next}
 use Rattle.two_hosts.specs.Deliveries.{SideState, Outcome, DeliveryContext, delivered, on_offer, on_need, on_piece, on_prepared, on_commit, on_abort, on_refuse, takes_offer, gives, breaks_off, reaches, refuses, goes_to, ignored, calls_of_delivery, calls_at, calls_by}
 use Rattle.two_hosts.specs.Hosts.{TwoHosts, host_of, context_for, fails_at}
 use Rattle.vt_transcript.specs.Replies.{is_fault}

@@ -14,7 +14,7 @@ use Rattle.move_core.specs.declared.stage.MoveStage.{MoveStage}
 use Rattle.move_core.specs.declared.stage.MoveStage.TheVariants as stage
 use Rattle.move_core.specs.declared.side.Side.TheVariants.{Offering, Released, Prepared}
 use Rattle.move_core.specs.Sides.{is_running, side_of}
-use Rattle.move_core.specs.Table.{message_from}
+use Rattle.move_core.specs.Messages.{message_from}
 use Rattle.two_hosts.specs.Parts.{part_bytes, totals_of}
 use Rattle.two_hosts.specs.Deliveries.{SideState, Outcome, DeliveryContext, ignored as ignores, delivered, on_offer, on_need, on_piece, on_prepared, on_commit, on_abort, on_refuse, gives, at_stage}
 use Rattle.two_hosts.specs.Hosts.{message_in, with_offer}

@@ -18,7 +18,7 @@ use Rattle.vt_base.specs.declared.types.HostName.TheVariants.{A, B}
 use Rattle.move_codec.specs.declared.message.Message.{Message}
 use Rattle.move_codec.specs.declared.message.Body.{Body}
 use Rattle.move_codec.specs.declared.message.Body.TheVariants as body
-use Rattle.move_core.specs.Table.{message_from}
+use Rattle.move_core.specs.Messages.{message_from}
 use Rattle.move_core.specs.declared.stage.MoveStage.{MoveStage}
 use Rattle.move_core.specs.declared.stage.MoveStage.TheVariants as stage
 use Rattle.move_core.specs.declared.side.Side.TheVariants.{Running, Offering}

@@ -13,7 +13,7 @@ use Rattle.move_codec.specs.declared.message.Body.TheVariants as body
 use Rattle.move_core.specs.declared.stage.MoveStage.TheVariants as stage
 use Rattle.move_core.specs.declared.answers.Delivered.TheVariants.{Sent}
 use Rattle.move_core.specs.Sides.{other, part_after, part_number, total_of}
-use Rattle.move_core.specs.Table.{message_from, is_next}
+use Rattle.move_core.specs.Messages.{message_from, is_next}
 use Rattle.vt_script.specs.declared.reply.Reply.TheVariants as reply
 use Rattle.two_hosts.specs.Parts.{part_bytes, totals_of}
 use Rattle.two_hosts.specs.Deliveries.{SideState, DeliveryContext, delivered, on_need, reaches, goes_to}

@@ -16,7 +16,7 @@ use Rattle.move_core.specs.declared.stage.MoveStage.TheVariants as stage
 use Rattle.move_core.specs.declared.answers.Delivered.{Delivered}
 use Rattle.move_core.specs.declared.answers.Delivered.TheVariants as delivers
 use Rattle.move_core.specs.Sides.{side_of, is_active, total_of, part_after, first_bad}
-use Rattle.move_core.specs.Table.{is_next}
+use Rattle.move_core.specs.Messages.{is_next}
 use Rattle.vt_script.specs.declared.reply.Reply.{Reply}
 use Rattle.vt_script.specs.declared.reply.Reply.TheVariants as reply
 use Rattle.two_hosts.specs.Parts.{totals_of}

@@ -12,7 +12,7 @@ use Rattle.move_core.specs.declared.stage.MoveStage.TheVariants as stage
 use Rattle.move_core.specs.declared.side.Side.TheVariants.{Empty, Running, Offering, Released, Filling, Prepared}
 use Rattle.move_core.specs.declared.answers.Delivered.TheVariants as delivers
 use Rattle.move_core.specs.Sides.{side_of}
-use Rattle.move_core.specs.Table.{message_from}
+use Rattle.move_core.specs.Messages.{message_from}
 use Rattle.vt_script.specs.declared.reply.Reply.TheVariants as reply
 use Rattle.two_hosts.specs.Deliveries.{SideState, Outcome, DeliveryContext, ignored, sends, delivered, on_prepared, on_commit, calls_at}
 use Rattle.two_hosts.specs.Hosts.{TwoHosts, HostState, host_of, with_host, with_outcome, counted, context_for, after_message, after_delivery, next_number}

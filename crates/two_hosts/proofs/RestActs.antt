@@ -16,7 +16,7 @@ use Rattle.move_core.specs.declared.stage.MoveStage.TheVariants as stage
 use Rattle.move_core.specs.declared.side.Side.{Side}
 use Rattle.move_core.specs.declared.side.Side.TheVariants.{Empty, Running, Offering, Released, Filling, Prepared}
 use Rattle.move_core.specs.Sides.{is_active, total_of, side_of, part_after, first_bad}
-use Rattle.move_core.specs.Table.{message_from, is_next}
+use Rattle.move_core.specs.Messages.{message_from, is_next}
 use Rattle.two_hosts.specs.Parts.{totals_of}
 use Rattle.two_hosts.specs.Deliveries.{SideState, Outcome, DeliveryContext, ignored as ignores, delivered, on_offer, on_need, on_piece, on_prepared, on_commit, on_abort, on_refuse, takes_offer, reaches, goes_to, at_stage}
 use Rattle.two_hosts.specs.Hosts.{message_in}

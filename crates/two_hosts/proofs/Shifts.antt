@@ -12,7 +12,7 @@ use Rattle.move_core.specs.declared.side.Side.TheVariants.{Empty, Running, Offer
 use Rattle.move_core.specs.declared.answers.Delivered.{Delivered}
 use Rattle.move_core.specs.declared.answers.Delivered.TheVariants as delivers
 use Rattle.move_core.specs.Sides.{side_of, is_running, is_active, total_of, part_after, first_bad}
-use Rattle.move_core.specs.Table.{is_next}
+use Rattle.move_core.specs.Messages.{is_next}
 use Rattle.crb_history.specs.Snapshot.{Snapshot}
 use Rattle.vt_base.specs.declared.types.HostName.{HostName}
 use Rattle.two_hosts.specs.Deliveries.{on_offer, SideState, Outcome, DeliveryContext, ignored, delivered, takes_offer, gives, on_need, goes_to, reaches, on_piece, on_prepared, on_commit, on_abort, on_refuse}

@@ -16,7 +16,7 @@ use Rattle.move_core.specs.declared.stage.MoveStage.TheVariants as stage
 use Rattle.move_core.specs.declared.side.Side.TheVariants.{Running}
 use Rattle.move_core.specs.declared.answers.Delivered.TheVariants.{Sent, Runs}
 use Rattle.move_core.specs.Sides.{other, side_of, is_active, is_running, first_bad}
-use Rattle.move_core.specs.Table.{message_from}
+use Rattle.move_core.specs.Messages.{message_from}
 use Rattle.vt_script.specs.declared.reply.Reply.TheVariants as reply
 use Rattle.two_hosts.specs.Parts.{totals_of}
 use Rattle.two_hosts.specs.Deliveries.{SideState, delivered, on_offer, on_prepared, on_commit, takes_offer}

@@ -8,6 +8,7 @@ use Rattle.vt_script.specs.declared.reply.Reply.TheVariants as reply
 use Rattle.device_record.specs.Records.{encode_record}
 use Rattle.state_blobs.specs.Encodings.{encode_blob}
 use Rattle.crb_machine.specs.Values.{fresh_device}
+use Rattle.tpm_core.specs.declared.algorithm.Banks.TheVariants.{Two}
 use Rattle.crb_history.specs.Snapshot.{Snapshot, fresh}
 use Rattle.crb_history.specs.Event.{History}
 use Rattle.vt_transcript.specs.Replies.{Exchange, Transcript}
@@ -68,10 +69,10 @@ same_hosts : (b : Snapshot) (piece : ℕ) (t : Transcript) → hosts_with (snaps
 same_hosts b piece [] = refl
 same_hosts b piece (y ∷ t) = rw (same_hosts b piece t) (same_exchange b piece (hosts_after b piece t) y.line y.reply)
 
--- A fresh device over a TPM whose seed is zeros. The empty list stands for the zeros of the buffer: the byte at each place is
+-- A fresh device over a TPM with two banks whose seed is zeros. The empty list stands for the zeros of the buffer: the byte at each place is
 -- the same.
 abbrev blank : Snapshot
-blank = record (fresh (replicate 32 0)) { device = record fresh_device { content = [] } }
+blank = record (fresh (replicate 32 0) Two) { device = record fresh_device { content = [] } }
 
 -- An offer waits for a command that is claimed; then no line of the guest is answered.
 --   w 8 4 1 > ok, w 40 4 1 > ok, w 80 4 180 > ok, w 84 4 c00 > ok, w 88 4 4401 > ok, w 4c 4 1 > ok, work > claim 1
@@ -261,6 +262,47 @@ calls_fail : IsRunBy (λ history. blank) blank 4096 (
     [])
 unfolding encode_record encode_blob bag_size
 calls_fail = record { legal = (tt, (lit≤ tt, refl)); in_turn = (((((((((tt, refl), refl), (refl, refl)), refl), refl), refl), refl), refl), refl) }
+
+-- An offer makes nine calls: the ninth fails.
+--   fail a 9 > ok, offer > link, offer > offered 1 sent 1
+ninth_call_fails : IsRunBy (λ history. blank) blank 4096 (
+    said Offer (reply.Offered 1 1) ∷
+    said Offer reply.Link ∷
+    said (Fail A 9) reply.Accepted ∷
+    [])
+unfolding encode_record encode_blob bag_size
+ninth_call_fails = record { legal = tt; in_turn = (((tt, refl), refl), refl) }
+
+-- Behind the nine calls of the offer the first blob's piece takes three: the twelfth call is the last of these.
+--   fail a 12 > ok, offer > offered 1 sent 1, deliver 1 > sent 2, deliver 2 > sent 3, deliver 3 > sent 4
+--   deliver 4 > link, deliver 4 > sent 5
+twelfth_call_fails : IsRunBy (λ history. blank) blank 4096 (
+    said (Deliver 4) (reply.SentMessage 5) ∷
+    said (Deliver 4) reply.Link ∷
+    said (Deliver 3) (reply.SentMessage 4) ∷
+    said (Deliver 2) (reply.SentMessage 3) ∷
+    said (Deliver 1) (reply.SentMessage 2) ∷
+    said Offer (reply.Offered 1 1) ∷
+    said (Fail A 12) reply.Accepted ∷
+    [])
+unfolding encode_record encode_blob bag_size
+twelfth_call_fails = record { legal = tt; in_turn = (((((((tt, refl), refl), refl), refl), refl), refl), refl) }
+
+-- The thirteenth is the first one for the second blob.
+--   fail a 13 > ok, offer > offered 1 sent 1, deliver 1 > sent 2, deliver 2 > sent 3, deliver 3 > sent 4
+--   deliver 4 > sent 5, deliver 5 > sent 6, deliver 6 > link
+thirteenth_call_fails : IsRunBy (λ history. blank) blank 4096 (
+    said (Deliver 6) reply.Link ∷
+    said (Deliver 5) (reply.SentMessage 6) ∷
+    said (Deliver 4) (reply.SentMessage 5) ∷
+    said (Deliver 3) (reply.SentMessage 4) ∷
+    said (Deliver 2) (reply.SentMessage 3) ∷
+    said (Deliver 1) (reply.SentMessage 2) ∷
+    said Offer (reply.Offered 1 1) ∷
+    said (Fail A 13) reply.Accepted ∷
+    [])
+unfolding encode_record encode_blob bag_size
+thirteenth_call_fails = record { legal = tt; in_turn = ((((((((tt, refl), refl), refl), refl), refl), refl), refl), refl) }
 
 -- A call of the source fails: the message is delivered once more.
 --   fail a 10 > ok, offer > offered 1 sent 1, deliver 1 > sent 2, deliver 2 > sent 3, deliver 3 > sent 4

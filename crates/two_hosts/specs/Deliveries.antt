@@ -16,7 +16,7 @@ use Rattle.move_core.specs.declared.stage.MoveStage.TheVariants.{Empty, Running,
 use Rattle.move_core.specs.declared.answers.Delivered.{Delivered}
 use Rattle.move_core.specs.declared.answers.Delivered.TheVariants as delivers
 use Rattle.move_core.specs.Sides.{is_active, part_after, total_of, first_bad}
-use Rattle.move_core.specs.Table.{message_from, is_next}
+use Rattle.move_core.specs.Messages.{message_from, is_next}
 use Rattle.two_hosts.specs.Parts.{part_bytes}
 
 -- a host's side, with what it keeps there of a move, and the greatest epoch that it has seen

@@ -17,7 +17,7 @@ use Rattle.move_core.specs.declared.stage.MoveStage.TheVariants.{Empty, Running,
 use Rattle.move_core.specs.declared.answers.Delivered.{Delivered}
 use Rattle.move_core.specs.declared.answers.Delivered.TheVariants as delivers
 use Rattle.move_core.specs.Sides.{is_running}
-use Rattle.move_core.specs.Table.{message_from}
+use Rattle.move_core.specs.Messages.{message_from}
 use Rattle.vt_script.specs.declared.reply.Reply.TheVariants as reply
 use Rattle.two_hosts.specs.Parts.{totals_of}
 use Rattle.two_hosts.specs.Deliveries.{SideState, Outcome, DeliveryContext, delivered, calls_of_delivery}

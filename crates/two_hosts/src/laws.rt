@@ -9,7 +9,7 @@ ghost use Rattle.move_codec.specs.declared.message.Message.{Message};
 ghost use Rattle.move_codec.specs.declared.message.Body.TheVariants.{Commit, Prepared as PreparedBody};
 ghost use Rattle.move_core.specs.declared.side.Side.TheVariants.{Released};
 ghost use Rattle.move_core.specs.Sides.{is_running};
-ghost use Rattle.move_core.specs.Table.{message_from};
+ghost use Rattle.move_core.specs.Messages.{message_from};
 ghost use Rattle.vt_script.specs.declared.event.Event.{Event};
 ghost use Rattle.vt_script.specs.declared.event.Event.TheVariants.{GiveUp};
 ghost use Rattle.vt_script.specs.declared.reply.Reply.{Reply};
