@@ -4,7 +4,11 @@
 #![tactic(auto)]
 
 #[cfg(test)]
+mod move_core_tests;
+#[cfg(test)]
 mod pair_tests;
+#[cfg(test)]
+mod piece_tests;
 #[cfg(test)]
 mod saved_stream_tests;
 #[cfg(test)]

@@ -5,7 +5,7 @@ use move_core::Side;
 use std::alloc::{AllocError, Global};
 use std::process::Abort;
 use std::test::*;
-use tpm_core::SEED_SIZE;
+use tpm_core::{Banks, SEED_SIZE};
 use vt_base::{BUFFER_LENGTH, HostName};
 use vt_world::*;
 
@@ -25,7 +25,7 @@ fn is_as_made(rt: &impl Abort, pair: &Pair<PlainPort>) {
 
 #[test]
 fn a_pair_lends_its_hosts_and_is_taken_apart(rt: HostRuntime) -> Result<(), Fail> {
-    let pair = Pair::fresh(rt.alloc(), [0; SEED_SIZE], 4096)?;
+    let pair = Pair::fresh(rt.alloc(), [0; SEED_SIZE], Banks::Two, 4096)?;
     is_as_made(&rt, &pair);
     let (a, b, wires_a, wires_b) = pair.into_parts();
     let again = Pair::new(a, b, wires_a, wires_b);
@@ -36,7 +36,7 @@ fn a_pair_lends_its_hosts_and_is_taken_apart(rt: HostRuntime) -> Result<(), Fail
 
 #[test]
 fn a_driver_does_a_command_on_a_pair(rt: HostRuntime) -> Result<(), Fail> {
-    let mut pair = Pair::fresh(rt.alloc(), [0; SEED_SIZE], 4096)?;
+    let mut pair = Pair::fresh(rt.alloc(), [0; SEED_SIZE], Banks::Two, 4096)?;
     let mut response = [0; BUFFER_LENGTH];
     let mut driver = Driver::new();
     let done = driver.call(&mut pair, &STARTUP, &mut response, 8);

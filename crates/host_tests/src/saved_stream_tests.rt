@@ -12,10 +12,10 @@ use state_blobs::{LARGEST_BLOB, piece};
 use std::alloc::{AllocError, Global};
 use std::process::Abort;
 use std::test::*;
-use tpm_core::Tpm;
+use tpm_core::{Banks, Tpm};
 use vt_base::{Buf, Kind, Malformed, Why};
 
-/// The stream of a device after a reset over a TPM with a seed of zeros that power came to once.
+/// The stream of a device after a reset over a TPM with one bank and a seed of zeros that power came to once.
 const FRESH: [u8; 101] = [
     0x43, 0x52, 0x42, 0x53, 1, 0, 0, 0, 0x5C, // the head
     0x43, 0x52, 0x42, 0x44, 1, 0, 0, 0, 0x0E, 0, 0, 0, 0, 0, 0, 0, 0, 0, 0, 0, 0, 0, 0, 0x43, 0x52,
@@ -24,21 +24,33 @@ const FRESH: [u8; 101] = [
     0x43, 0x52, 0x42, 0x5A, 1, 0, 0, 0, 1, 0,
 ];
 
+/// Where the versions of the three blobs stand.
+const VERSIONS: [usize; 3] = [36, 85, 95];
+
+/// The same stream of a TPM with two banks.
+fn fresh_of_two() -> [u8; 101] {
+    let mut bytes = FRESH;
+    for place in VERSIONS {
+        changed(&mut bytes, (place, 2));
+    }
+    bytes
+}
+
 /// TPM2_Startup(CLEAR).
 const STARTUP: [u8; 12] = [0x80, 1, 0, 0, 0, 12, 0, 0, 1, 0x44, 0, 0];
 
 /// TPM2_Shutdown(STATE).
 const SHUTDOWN: [u8; 12] = [0x80, 1, 0, 0, 0, 12, 0, 0, 1, 0x45, 0, 1];
 
-fn powered() -> Tpm {
-    let mut tpm = Tpm::manufacture([0; 32]);
+fn powered(banks: Banks) -> Tpm {
+    let mut tpm = Tpm::manufacture([0; 32], banks);
     tpm.power_on();
     tpm
 }
 
 /// A started TPM whose state is saved.
-fn kept(alloc: Global) -> Result<Tpm, AllocError> {
-    let mut tpm = powered();
+fn kept(alloc: Global, banks: Banks) -> Result<Tpm, AllocError> {
+    let mut tpm = powered(banks);
     let mut into = Buf::new(alloc)?;
     tpm.execute(&STARTUP, &mut into);
     tpm.execute(&SHUTDOWN, &mut into);
@@ -123,18 +135,23 @@ fn value(bytes: &[u8], at: &mut usize, most: u8) -> Result<u8, Fault> {
     Ok(value)
 }
 
-/// A magic that ends in this letter, the version, and a length.
-fn header(bytes: &[u8], at: &mut usize, letter: u8) -> Result<u64, Fault> {
+/// A magic that ends in this letter, a version of at most this, and a length.
+fn header(bytes: &[u8], at: &mut usize, letter: u8, latest: u8) -> Result<(u8, u64), Fault> {
     for wanted in [b'C', b'R', b'B', letter] {
         mark(bytes, at, wanted, Why::Magic)?;
     }
-    mark(bytes, at, 1, Why::Version)?;
-    number(bytes, at, 4)
+    let place = *at;
+    let version = byte(bytes, at)?;
+    if version == 0 || version > latest {
+        return Err((Why::Version, place));
+    }
+    let size = number(bytes, at, 4)?;
+    Ok((version, size))
 }
 
 fn record(bytes: &[u8], at: &mut usize) -> Result<(), Fault> {
     let start = *at;
-    let size = header(bytes, at, b'D')?;
+    let (_, size) = header(bytes, at, b'D', 1)?;
     if size < 14 || size > 3982 {
         return Err((Why::Length, start.saturating_add(5)));
     }
@@ -164,11 +181,13 @@ fn record(bytes: &[u8], at: &mut usize) -> Result<(), Fault> {
     Ok(())
 }
 
-/// A blob with one of two lengths, and whether a flag of 1 stands at the start of its body.
-fn blob(bytes: &[u8], at: &mut usize, letter: u8, lengths: [u64; 2]) -> Result<bool, Fault> {
+/// A blob with the first length or with that of its version; its version, and whether a flag of 1 stands at the start of
+/// its body.
+fn blob(bytes: &[u8], at: &mut usize, letter: u8, lengths: [u64; 3]) -> Result<(u8, bool), Fault> {
     let start = *at;
-    let size = header(bytes, at, letter)?;
-    if size != lengths[0] && size != lengths[1] {
+    let (version, size) = header(bytes, at, letter, 2)?;
+    let longer = if version == 1 { lengths[1] } else { lengths[2] };
+    if size != lengths[0] && size != longer {
         return Err((Why::Length, start.saturating_add(5)));
     }
     let place = *at;
@@ -177,28 +196,45 @@ fn blob(bytes: &[u8], at: &mut usize, letter: u8, lengths: [u64; 2]) -> Result<b
         return Err((Why::Value, place));
     }
     number(bytes, at, size.saturating_sub(1))?;
-    Ok(flag == 1)
+    Ok((version, flag == 1))
+}
+
+/// So many bytes from these two places on are the same, or the first of the second that isn't is at fault.
+fn agree(bytes: &[u8], running: usize, kept: usize, count: usize) -> Result<(), Fault> {
+    for i in 0..count {
+        let place = kept.saturating_add(i);
+        if bytes.get(place) != bytes.get(running.saturating_add(i)) {
+            return Err((Why::Value, place));
+        }
+    }
+    Ok(())
 }
 
 /// The rules of a stream, one after the other.
 fn parsed(bytes: &[u8]) -> Result<(), Fault> {
     let mut at = 0;
-    let size = header(bytes, &mut at, b'S')?;
+    let (_, size) = header(bytes, &mut at, b'S', 1)?;
     record(bytes, &mut at)?;
-    blob(bytes, &mut at, b'P', [40, 40])?;
+    let (version, _) = blob(bytes, &mut at, b'P', [40, 40, 40])?;
     let volatile = at;
-    let started = blob(bytes, &mut at, b'V', [1, 781])?;
+    let (of_volatile, started) = blob(bytes, &mut at, b'V', [1, 781, 1933])?;
     let saved = at;
-    let kept = blob(bytes, &mut at, b'Z', [1, 517])?;
+    let (of_saved, kept) = blob(bytes, &mut at, b'Z', [1, 517, 1285])?;
     if size != (at as u64).saturating_sub(9) {
         return Err((Why::Length, 5));
     }
+    if of_volatile != version {
+        return Err((Why::Version, volatile.saturating_add(4)));
+    }
+    if of_saved != version {
+        return Err((Why::Version, saved.saturating_add(4)));
+    }
     if started && kept {
-        for i in 0..516usize {
-            let place = saved.saturating_add(10).saturating_add(i);
-            if bytes.get(place) != bytes.get(volatile.saturating_add(18).saturating_add(i)) {
-                return Err((Why::Value, place));
-            }
+        let (running, state) = (volatile.saturating_add(18), saved.saturating_add(10));
+        agree(bytes, running, state, 516)?;
+        if version == 2 {
+            let (running, state) = (volatile.saturating_add(790), saved.saturating_add(526));
+            agree(bytes, running, state, 768)?;
         }
     }
     if at < bytes.len() {
@@ -238,9 +274,13 @@ fn is_read(
 #[test]
 fn a_fresh_stream_both_ways(rt: HostRuntime) -> Result<(), Fail> {
     let mut device = held(&rt, rt.alloc())?;
-    let stream = written(rt.alloc(), &device, &powered())?;
+    let stream = written(rt.alloc(), &device, &powered(Banks::One))?;
     assert!(rt; stream.as_slice() == FRESH.as_slice());
     assert!(rt; is_read(rt.alloc(), &mut device, &FRESH, Ok(()))?);
+    let stream = written(rt.alloc(), &device, &powered(Banks::Two))?;
+    let fresh = fresh_of_two();
+    assert!(rt; stream.as_slice() == fresh.as_slice());
+    assert!(rt; is_read(rt.alloc(), &mut device, &fresh, Ok(()))?);
     Ok(())
 }
 
@@ -272,10 +312,11 @@ fn wrong_prefix(
 fn wrong_change(
     alloc: Global,
     device: &mut Device<PlainPort>,
+    fresh: &[u8; 101],
 ) -> Result<Option<(usize, u8)>, AllocError> {
     for place in 0..FRESH.len() {
-        for bits in [1, 2, 4, 0x0F, 0x80, 0xFF] {
-            let mut bytes = FRESH;
+        for bits in [1, 2, 3, 4, 0x0F, 0x80, 0xFF] {
+            let mut bytes = *fresh;
             bytes[place] ^= bits;
             if read(alloc, device, &bytes)? != Some(parsed(&bytes)) {
                 return Ok(Some((place, bits)));
@@ -295,13 +336,15 @@ fn each_prefix_is_refused_as_cut(rt: HostRuntime) -> Result<(), Fail> {
 #[test]
 fn each_byte_changed(rt: HostRuntime) -> Result<(), Fail> {
     let mut device = held(&rt, rt.alloc())?;
-    assert_eq!(rt; wrong_change(rt.alloc(), &mut device)?, None);
+    assert_eq!(rt; wrong_change(rt.alloc(), &mut device, &FRESH)?, None);
+    let fresh = fresh_of_two();
+    assert_eq!(rt; wrong_change(rt.alloc(), &mut device, &fresh)?, None);
     Ok(())
 }
 
 /// Two places of the fresh stream, the bytes that stand there, how many bytes there are, with zeros at the end, and the
 /// fault.
-const REFUSALS: [((usize, u8), (usize, u8), usize, Why, usize); 14] = [
+const REFUSALS: [((usize, u8), (usize, u8), usize, Why, usize); 19] = [
     ((3, 0x44), (0, 0x43), 101, Why::Magic, 3),
     ((4, 2), (8, 0), 101, Why::Version, 4),
     // late: the length, once all parts are whole
@@ -309,6 +352,11 @@ const REFUSALS: [((usize, u8), (usize, u8), usize, Why, usize); 14] = [
     ((5, 1), (0, 0x43), 101, Why::Length, 5),
     ((8, 0x5D), (0, 0x43), 102, Why::Length, 5),
     ((8, 0x5D), (0, 0x43), 100, Why::Cut, 100),
+    // then the versions, that of the volatile blob first
+    ((36, 2), (95, 2), 101, Why::Version, 85),
+    ((85, 2), (95, 2), 101, Why::Version, 85),
+    ((95, 2), (0, 0x43), 102, Why::Version, 95),
+    ((85, 2), (8, 0x5D), 101, Why::Length, 5),
     ((0, 0x43), (0, 0x43), 102, Why::Extra, 101),
     ((0, 0x43), (0, 0x43), 108, Why::Extra, 101),
     // early: the parts
@@ -316,6 +364,7 @@ const REFUSALS: [((usize, u8), (usize, u8), usize, Why, usize); 14] = [
     ((8, 0x5D), (20, 5), 101, Why::Value, 20),
     ((32, 0x44), (0, 0x43), 101, Why::Magic, 32),
     ((40, 0x29), (8, 0), 101, Why::Length, 37),
+    ((36, 3), (85, 2), 101, Why::Version, 36),
     ((90, 2), (100, 1), 101, Why::Value, 90),
     ((100, 1), (0, 0x43), 102, Why::Value, 100),
 ];
@@ -372,40 +421,53 @@ fn a_malformed_stream_is_refused_at_its_place(rt: HostRuntime) -> Result<(), Fai
 }
 
 /// The stream of a device after a reset over a TPM whose state is saved.
-fn kept_stream(alloc: Global, device: &Device<PlainPort>) -> Result<Vec<u8>, AllocError> {
-    let tpm = kept(alloc)?;
+fn kept_stream(
+    alloc: Global,
+    device: &Device<PlainPort>,
+    banks: Banks,
+) -> Result<Vec<u8>, AllocError> {
+    let tpm = kept(alloc, banks)?;
     written(alloc, device, &tpm)
 }
 
-/// The first of these places at which another byte is reported otherwise than as the first place that differs; 0 where
-/// the stream isn't read as it is.
+/// The first of these places, the last of them first, at which another byte is reported otherwise than as the first place
+/// that differs; 0 where the stream isn't read as it is, or has another length.
 fn wrong_disagreement(
     alloc: Global,
     device: &mut Device<PlainPort>,
     stream: &mut Vec<u8>,
+    size: usize,
+    places: &[usize],
 ) -> Result<Option<usize>, AllocError> {
-    let whole = stream.len() == 9 + 23 + 49 + 790 + 526;
-    if !whole || !is_read(alloc, device, stream, Ok(()))? {
+    if stream.len() != size || !is_read(alloc, device, stream, Ok(()))? {
         return Ok(Some(0));
     }
-    // Of the counter and of registers, the last first.
-    for place in [1396, 1000, 885, 884, 881] {
-        changed(stream, (place, 0x40));
-        if !is_read(alloc, device, stream, Err((Why::Value, place)))? {
-            return Ok(Some(place));
+    for place in places {
+        changed(stream, (*place, 0x40));
+        if !is_read(alloc, device, stream, Err((Why::Value, *place)))? {
+            return Ok(Some(*place));
         }
     }
     Ok(None)
 }
 
+/// Places of the counter and of registers in the saved blob of such a stream.
+const STATE_OF_ONE: [usize; 5] = [1396, 1000, 885, 884, 881];
+
+/// The same with two banks; the first three are of registers by SHA-384.
+const STATE_OF_TWO: [usize; 6] = [3316, 3000, 2549, 2548, 2037, 2033];
+
 #[test]
 fn a_saved_state_that_disagrees(rt: HostRuntime) -> Result<(), Fail> {
     let mut device = held(&rt, rt.alloc())?;
-    let mut stream = kept_stream(rt.alloc(), &device)?;
-    assert_eq!(rt;
-        wrong_disagreement(rt.alloc(), &mut device, &mut stream)?,
-        None
-    );
+    for (banks, size, places) in [
+        (Banks::One, 1397, STATE_OF_ONE.as_slice()),
+        (Banks::Two, 3317, STATE_OF_TWO.as_slice()),
+    ] {
+        let mut stream = kept_stream(rt.alloc(), &device, banks)?;
+        let wrong = wrong_disagreement(rt.alloc(), &mut device, &mut stream, size, places)?;
+        assert_eq!(rt; wrong, None);
+    }
     Ok(())
 }
 
@@ -425,7 +487,7 @@ fn is_in_order(
 #[test]
 fn a_disagreement_in_its_order(rt: HostRuntime) -> Result<(), Fail> {
     let mut device = held(&rt, rt.alloc())?;
-    let mut stream = kept_stream(rt.alloc(), &device)?;
+    let mut stream = kept_stream(rt.alloc(), &device, Banks::One)?;
     stream.push(0)?;
     assert!(rt; is_in_order(rt.alloc(), &mut device, &mut stream)?);
     Ok(())
@@ -453,7 +515,7 @@ const ASKED: [(usize, u32); 15] = [
 
 /// A place of the fresh stream and the bits that are changed there, and how many bytes are asked for once the header or
 /// body is whole: none where a header is refused; the length of the head isn't looked at.
-const CHANGED: [(usize, u8, u32); 9] = [
+const CHANGED: [(usize, u8, u32); 11] = [
     (0, 1, 0),
     (4, 1, 0),
     (8, 1, 9),
@@ -461,6 +523,8 @@ const CHANGED: [(usize, u8, u32); 9] = [
     (16, 1, 270),
     (17, 0x70, 126),
     (17, 3, 0),
+    (36, 3, 40),
+    (85, 2, 0),
     (40, 1, 0),
     (90, 1, 9),
 ];
@@ -469,7 +533,9 @@ const CHANGED: [(usize, u8, u32); 9] = [
 fn is_asked_for(place: usize, bits: u8, count: u32) -> bool {
     let mut bytes = FRESH;
     changed(&mut bytes, (place, FRESH.get(place).unwrap_or(&0) ^ bits));
-    let end = [9usize, 18, 41, 91].into_iter().find(|end| *end > place);
+    let end = [9usize, 18, 41, 90, 91]
+        .into_iter()
+        .find(|end| *end > place);
     let end = end.unwrap_or(0);
     wanted(bytes.get(..end).unwrap_or(&[])) == count
         && wanted(bytes.get(..end.saturating_sub(1)).unwrap_or(&[])) == 1

@@ -7,20 +7,29 @@ use move_core::Side;
 use std::alloc::{AllocError, Global};
 use std::process::Abort;
 use std::test::*;
-use tpm_core::SEED_SIZE;
+use tpm_core::{Banks, SEED_SIZE};
 use vt_base::{HostName, Malformed, Why};
 use vt_emulator::Emulator;
 use vt_script::{Event, Reply};
 use vt_world::*;
 
-// The saved stream of a host on which no line was done.
+// The saved stream of a host with two banks on which no line was done.
 const FRESH: [u8; 101] = [
     0x43, 0x52, 0x42, 0x53, 1, 0, 0, 0, 0x5C, // the head
     0x43, 0x52, 0x42, 0x44, 1, 0, 0, 0, 0x0E, 0, 0, 0, 0, 0, 0, 0, 0, 0, 0, 0, 0, 0, 0, 0x43, 0x52,
-    0x42, 0x50, 1, 0, 0, 0, 0x28, 0, 0, 0, 0, 0, 0, 0, 0, 0, 0, 0, 0, 0, 0, 0, 0, 0, 0, 0, 0, 0, 0,
-    0, 0, 0, 0, 0, 0, 0, 0, 0, 0, 0, 0, 0, 0, 0, 0, 0, 1, 0x43, 0x52, 0x42, 0x56, 1, 0, 0, 0, 1, 0,
-    0x43, 0x52, 0x42, 0x5A, 1, 0, 0, 0, 1, 0,
+    0x42, 0x50, 2, 0, 0, 0, 0x28, 0, 0, 0, 0, 0, 0, 0, 0, 0, 0, 0, 0, 0, 0, 0, 0, 0, 0, 0, 0, 0, 0,
+    0, 0, 0, 0, 0, 0, 0, 0, 0, 0, 0, 0, 0, 0, 0, 0, 0, 1, 0x43, 0x52, 0x42, 0x56, 2, 0, 0, 0, 1, 0,
+    0x43, 0x52, 0x42, 0x5A, 2, 0, 0, 0, 1, 0,
 ];
+
+// The same of a host with one bank.
+fn fresh_of_one() -> [u8; 101] {
+    let mut bytes = FRESH;
+    bytes[36] = 1;
+    bytes[85] = 1;
+    bytes[95] = 1;
+    bytes
+}
 
 // Why and where the bytes are no saved stream, if they are none.
 fn fault_of(alloc: Global, bytes: &[u8], piece: u32) -> Result<Option<Malformed>, AllocError>
@@ -51,7 +60,7 @@ fn has_tpm(wires: MemWires) -> bool {
 
 #[test]
 fn wires_with_and_without_a_tpm(rt: HostRuntime) -> Result<(), Fail> {
-    let with = Emulator::new(rt.alloc(), [0; SEED_SIZE], 4096)?;
+    let with = Emulator::new(rt.alloc(), [0; SEED_SIZE], Banks::Two, 4096)?;
     assert!(rt; has_tpm(MemWires::new(rt.alloc(), with)?));
     let without = Emulator::empty(rt.alloc(), 4096)?;
     assert!(rt; !has_tpm(MemWires::new(rt.alloc(), without)?));
@@ -61,7 +70,7 @@ fn wires_with_and_without_a_tpm(rt: HostRuntime) -> Result<(), Fail> {
 #[test]
 fn a_new_world_answers(rt: HostRuntime) -> Result<(), Fail> {
     for piece in [1, 7, 4096] {
-        let mut world = World::new(rt.alloc(), [0; SEED_SIZE], piece)?;
+        let mut world = World::new(rt.alloc(), [0; SEED_SIZE], Banks::Two, piece)?;
         answers(&rt, &mut world);
         drop(world);
     }
@@ -73,7 +82,7 @@ fn saved_at_once(alloc: Global, piece: u32) -> Result<(Saved, bool), AllocError>
     requires least { 1 ≤ piece }
     requires most { piece ≤ 4096 }
 {
-    let mut world = World::new(alloc, [0; SEED_SIZE], piece)?;
+    let mut world = World::new(alloc, [0; SEED_SIZE], Banks::Two, piece)?;
     let mut stream = Vec::new(alloc);
     let saved = world.save(alloc, &mut stream);
     drop(world);
@@ -93,6 +102,14 @@ fn a_stream_is_loaded(rt: HostRuntime) -> Result<(), Fail> {
     for piece in [1, 7, 4096] {
         assert_eq!(rt; fault_of(rt.alloc(), &FRESH, piece)?, None);
     }
+    assert_eq!(rt; fault_of(rt.alloc(), &fresh_of_one(), 4096)?, None);
+    let mut mixed = FRESH;
+    mixed[85] = 1;
+    let version = Malformed {
+        why: Why::Version,
+        place: 85,
+    };
+    assert_eq!(rt; fault_of(rt.alloc(), &mixed, 4096)?, Some(version));
     let cut = Malformed {
         why: Why::Cut,
         place: 100,
@@ -103,7 +120,7 @@ fn a_stream_is_loaded(rt: HostRuntime) -> Result<(), Fail> {
 
 // The host at which the guest runs once its move was offered and so many messages were delivered.
 fn running_after(alloc: Global, count: u32) -> Result<Option<HostName>, AllocError> {
-    let mut world = World::new(alloc, [0; SEED_SIZE], 4096)?;
+    let mut world = World::new(alloc, [0; SEED_SIZE], Banks::Two, 4096)?;
     let done = deliver_first(alloc, &mut world, count);
     let running = world.running();
     drop(world);
@@ -139,7 +156,7 @@ fn is_new(rt: &impl Abort, world: &World) {
 
 #[test]
 fn a_new_world_lends_its_hosts(rt: HostRuntime) -> Result<(), Fail> {
-    let world = World::new(rt.alloc(), [0; SEED_SIZE], 4096)?;
+    let world = World::new(rt.alloc(), [0; SEED_SIZE], Banks::Two, 4096)?;
     is_new(&rt, &world);
     drop(world);
     Ok(())

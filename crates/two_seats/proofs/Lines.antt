@@ -106,6 +106,23 @@ follows_one b piece t w n f runs =
     let at : stage_at t n ≡ stage.Running = Rattle.two_hosts.proofs.InvariantKept.running_stage (stage_at t n) (ap is_running (sym (f.seats n).stage_is) ∙ runs) in
     record { fit = f.fit; stands = subst (λ x. StandsBy b t.history t.offered x (seat_of w n)) at (f.seats n).stands; calls_to_fault = (f.seats n).calls_to_fault }
 
+-- A's guest goes on where it was, with nothing else changed
+pub goes_on_at_a : (b : Snapshot) (piece : ℕ) (t : TwoHosts) (w : TwoSeats) (new : SeatState PortState) → FollowsBoth b piece t w → is_running w.a.host.stage ≡ true → RefinesOneHost b (one_of t A) (world_of new)
+    → new ≡ record w.a { host = record w.a.host { device = new.host.device } } → FollowsBoth b piece t (record w { a = new })
+goes_on_at_a b piece t w new f runs goes others =
+    let here : IsSeat b piece t.history t.offered A t.a w.a = f.seats A in
+    let at : t.a.side.stage ≡ stage.Running = Rattle.two_hosts.proofs.InvariantKept.running_stage t.a.side.stage (ap is_running (sym here.stage_is) ∙ runs) in
+    let seated : IsSeat b piece t.history t.offered A t.a new = record {
+      name_is = ap (λ (s : SeatState PortState). s.host.name) others ∙ here.name_is;
+      piece_is = ap (λ (s : SeatState PortState). s.host.piece) others ∙ here.piece_is;
+      pieces = ap (λ (s : SeatState PortState). s.link.emulator.piece) others ∙ here.pieces;
+      stage_is = ap (λ (s : SeatState PortState). s.host.stage) others ∙ here.stage_is;
+      top_is = ap (λ (s : SeatState PortState). s.host.top) others ∙ here.top_is;
+      calls_to_fault = goes.calls_to_fault;
+      stands = subst (λ x. StandsBy b t.history t.offered x new) (sym at) goes.stands;
+    } in
+    record { fit = f.fit; invariant = f.invariant; fits = f.fits; seats = seated_both b piece t.history t.offered t w A t.a new seated (f.seats B); some = f.some; bag_is = f.bag_is }
+
 pub guest_steps : (b : Snapshot) (piece : ℕ) (t : TwoHosts) (w : TwoSeats) (n : HostName) (line : Event) (r : Reply) (new : (SeatState PortState)) → is_plain line ≡ true → Went b piece t w n line r new
     → StepsBoth b piece t line r (with_seat w n new)
 guest_steps b piece t w n (event.Fail host call) r new is went = absurd cc

@@ -9,6 +9,7 @@ use Rattle.vt_base.specs.declared.types.Kind.TheVariants.{Permanent, Volatile, S
 use Rattle.vt_base.specs.declared.types.Malformed.{Malformed}
 use Rattle.tpm_core.specs.declared.parts.TpmParts.{TpmParts}
 use Rattle.vt_base.specs.Numbers.{number}
+use Rattle.state_blobs.specs.Numbers.{largest_blob, version_of}
 use Rattle.state_blobs.specs.Encodings.{letter_of, body_of, encode_blob, slice}
 use Rattle.state_blobs.specs.Blobs.{blob}
 use Rattle.state_blobs.specs.Room.{blob_within}
@@ -40,8 +41,8 @@ spells-within (Field n next) end room bytes spells within =
     omega (arith, rest, length-drop n bytes, within.0, spells.0)
 
 -- a blob has at most as many bytes as the longest
-pub blob-length : (kind : Kind) (bytes : List ℕ) → Encodes (blob kind) (Ok tt) bytes → length bytes ≤ 790
-blob-length kind bytes spells = spells-within (blob kind) (Ok tt) 790 bytes spells (blob_within kind)
+pub blob-length : (kind : Kind) (bytes : List ℕ) → Encodes (blob kind) (Ok tt) bytes → length bytes ≤ largest_blob
+blob-length kind bytes spells = spells-within (blob kind) (Ok tt) largest_blob bytes spells (blob_within kind)
 
 -- ---- a piece is asked for
 
@@ -83,7 +84,7 @@ none_after : (calls : ℕ) → schedule_after fails_next after_call calls None �
 none_after zero = refl
 none_after (suc calls) = none_after calls
 
-has_field : (kind : Kind) (t : TpmParts) (w : WiresState) → IsReadable w t → length (encode_blob kind t) ≤ 790 → HasField kind w.link
+has_field : (kind : Kind) (t : TpmParts) (w : WiresState) → IsReadable w t → length (encode_blob kind t) ≤ largest_blob → HasField kind w.link
 has_field kind t w ready within_limit = record { quiet = ready.quiet; total = subst (λ (o : Option TpmParts). IfSome o (λ v. length (encode_blob kind v) < 2 ^ 32)) (sym ready.tpm) (omega (arith, within_limit)) }
 
 pub fetched : (kind : Kind) (t : TpmParts) (from : ℕ) (w : WiresState) (answer : Result Piece ClientFault) (old new : List ℕ) (m : Link) (calls_to_fault : Option ℕ)
@@ -115,7 +116,7 @@ unfolding piece_or
 same_piece answer p q first second = ap (piece_or p) (sym first ∙ second)
 
 -- there is room for all of it
-pub whole_rest : (kind : Kind) (t : TpmParts) → Encodes (blob kind) (Ok tt) (encode_blob kind t) → HasRest kind t 0 790
+pub whole_rest : (kind : Kind) (t : TpmParts) → Encodes (blob kind) (Ok tt) (encode_blob kind t) → HasRest kind t 0 largest_blob
 whole_rest kind t spells = let within_limit = blob-length kind (encode_blob kind t) spells in record { within = omega arith; fits = omega (arith, within_limit) }
 
 -- ---- pieces are joined
@@ -208,7 +209,7 @@ joined_pieces kind t from w answer old new prefix back m calls_to_fault p count 
 -- ---- a blob is given
 
 -- all of it at once, where there is room
-pub whole_piece : (kind : Kind) (t : TpmParts) (old new : List ℕ) (count : ℕ) → length (encode_blob kind t) ≤ 790 → length old ≡ 790
+pub whole_piece : (kind : Kind) (t : TpmParts) (old new : List ℕ) (count : ℕ) → length (encode_blob kind t) ≤ largest_blob → length old ≡ largest_blob
     → count ≡ min (length old) (length (encode_blob kind t) - 0) → new ≡ slice (encode_blob kind t) 0 count ++ drop count old → take count new ≡ encode_blob kind t
 whole_piece kind t old new count within_limit room size is =
     let all : count ≡ length (encode_blob kind t) = omega (arith, within_limit, room, size) in
@@ -232,7 +233,7 @@ some-by xs all x is = rw is (omega arith)
 -- the text of a blob isn't empty
 pub text-some : (kind : Kind) (t : TpmParts) → 0 < length (encode_blob kind t)
 unfolding encode_blob
-text-some kind t = some-by (82 ∷ 66 ∷ letter_of kind ∷ 1 ∷ (number (length (body_of kind t)) ++ body_of kind t)) (encode_blob kind t) 67 refl
+text-some kind t = some-by (82 ∷ 66 ∷ letter_of kind ∷ version_of t.banks ∷ (number (length (body_of kind t)) ++ body_of kind t)) (encode_blob kind t) 67 refl
 
 pub put-given : (kind : Kind) (t : TpmParts) (bytes : List ℕ) (w : WiresState) (m : Link) (calls_to_fault : Option ℕ) (answer : Result (Unit {0}) ClientFault)
     → bytes ≡ encode_blob kind t → ((fault : Malformed) → IsRefused kind fault (encode_blob kind t) → ⊥) → IsAwaiting kind w

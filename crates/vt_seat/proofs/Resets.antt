@@ -20,6 +20,7 @@ use Rattle.tpm_core.specs.Answers.{powered_on}
 use Rattle.tpm_core.specs.Answers.Entry.{PowerOn}
 use Rattle.tpm_core.specs.Steps.{IsValid}
 use Rattle.tpm_core.specs.declared.parts.TpmParts.{TpmParts}
+use Rattle.tpm_core.specs.declared.algorithm.Banks.{Banks}
 use Rattle.tpm_core.specs.Fresh.{manufactured}
 use Rattle.tpm_core.proofs.Fit.{fit-manufactured}
 use Rattle.tpm_core.proofs.Law.{fit-past, values_after-append, values_after-power_on, no_past}
@@ -322,30 +323,30 @@ done_by (Err not_yet) none = cc
 
 -- ---- a new world
 
-fit-fresh : (seed : List ℕ) → length seed ≡ 32 → IsValid (powered_on (manufactured seed))
-fit-fresh seed whole =
-    let fit : IsValid (manufactured seed) = fit-manufactured seed whole in
-    subst IsValid (values_after-power_on (manufactured seed) fit) (fit-past (manufactured seed) (PowerOn ∷ []) fit)
+fit-fresh : (seed : List ℕ) (banks : Banks) → length seed ≡ 32 → IsValid (powered_on (manufactured seed banks))
+fit-fresh seed banks whole =
+    let fit : IsValid (manufactured seed banks) = fit-manufactured seed banks whole in
+    subst IsValid (values_after-power_on (manufactured seed banks) fit) (fit-past (manufactured seed banks) (PowerOn ∷ []) fit)
 
 -- a device after a reset over an emulator that was switched on
-pub new-follows : (seed : List ℕ) (piece : ℕ) (d : DeviceModel PortState) (progress : Progress) (m : Link) (calls_to_fault' : Option ℕ) (answer : Result (Unit {0}) ClientFault)
+pub new-follows : (seed : List ℕ) (banks : Banks) (piece : ℕ) (d : DeviceModel PortState) (progress : Progress) (m : Link) (calls_to_fault' : Option ℕ) (answer : Result (Unit {0}) ClientFault)
     → length seed ≡ 32 → plain_device d ≡ fresh_state → progress ≡ Free
-    → Commands fails_next after_call (Init 0) [] (fresh_wires (Some (manufactured seed)) piece).link None answer (Some m) calls_to_fault'
-    → Refines (fresh seed) [] (record { device = d; progress = progress; link = m; calls_to_fault = calls_to_fault'; faults = 0 })
-new-follows seed piece d progress m calls_to_fault' answer whole is free exact = go exact.link
+    → Commands fails_next after_call (Init 0) [] (fresh_wires (Some (manufactured seed banks)) piece).link None answer (Some m) calls_to_fault'
+    → Refines (fresh seed banks) [] (record { device = d; progress = progress; link = m; calls_to_fault = calls_to_fault'; faults = 0 })
+new-follows seed banks piece d progress m calls_to_fault' answer whole is free exact = go exact.link
   where
-    go : CommandedBy false false (Init 0) [] (fresh_wires (Some (manufactured seed)) piece).link answer (Some m) → Refines (fresh seed) [] (record { device = d; progress = progress; link = m; calls_to_fault = calls_to_fault'; faults = 0 })
+    go : CommandedBy false false (Init 0) [] (fresh_wires (Some (manufactured seed banks)) piece).link answer (Some m) → Refines (fresh seed banks) [] (record { device = d; progress = progress; link = m; calls_to_fault = calls_to_fault'; faults = 0 })
     go (request_outcome, obeys, same, answers) =
-        let fit : IsValid (powered_on (manufactured seed)) = fit-fresh seed whole in
-        let now : m ≡ record (fresh_wires (Some (manufactured seed)) piece).link { emulator = request_outcome.emulator } = the_same m _ same in
-        let emulator : request_outcome.emulator ≡ switched_on (powered_on (manufactured seed)) (fresh_wires (Some (manufactured seed)) piece).link.emulator = ap (λ (x : RequestOutcome). x.emulator) obeys in
+        let fit : IsValid (powered_on (manufactured seed banks)) = fit-fresh seed banks whole in
+        let now : m ≡ record (fresh_wires (Some (manufactured seed banks)) piece).link { emulator = request_outcome.emulator } = the_same m _ same in
+        let emulator : request_outcome.emulator ≡ switched_on (powered_on (manufactured seed banks)) (fresh_wires (Some (manufactured seed banks)) piece).link.emulator = ap (λ (x : RequestOutcome). x.emulator) obeys in
         record {
           fit = fit;
           stands = rw (is, free, now, emulator) (record {
             device = record { regs = refl; number = refl; bytes = λ far. record { size = length-zeros 3968; each = λ i lt. refl } };
             job = AtHome (zeros 3968) refl;
             quiet = record { nothing = refl; listens = refl };
-            link = λ far. record { emulator = record { tpm = ap Some (sym (no_past (powered_on (manufactured seed)) fit)); on = refl; stored = refl; gathers = refl; held_is = refl }; channel = refl };
+            link = λ far. record { emulator = record { tpm = ap Some (sym (no_past (powered_on (manufactured seed banks)) fit)); on = refl; stored = refl; gathers = refl; held_is = refl }; channel = refl };
           });
           calls_to_fault = exact.schedule_is;
         }

@@ -25,7 +25,8 @@ view_of s = wires_view fails_next after_call (Some s.link) s.calls_to_fault s.fa
 abbrev pub world_of : SeatState PortState → WorldState
 world_of s = record { device = s.host.device; progress = s.progress; link = s.link; calls_to_fault = s.calls_to_fault; faults = s.faults }
 
--- a host of this name runs that never took part in a move, and a piece of its record or of a blob has at most so many bytes
+-- A host of this name runs that never took part in a move, and a piece of its record or of a blob has at most so many bytes. No call on its wires is to
+-- fail, and none has failed.
 pub record StartsAs (name : HostName) (piece : ℕ) (s : SeatState PortState) : Type 0 where
   pub name_is : s.host.name ≡ name
   pub runs : s.host.stage ≡ Running
@@ -33,6 +34,8 @@ pub record StartsAs (name : HostName) (piece : ℕ) (s : SeatState PortState) : 
   pub record_piece : s.host.piece ≡ piece
   pub blob_piece : s.link.emulator.piece ≡ piece
   pub free : s.progress ≡ Free
+  pub calls_to_fault : s.calls_to_fault ≡ None
+  pub faults : s.faults ≡ 0
 
 -- a host of this name has no guest and never took part in a move, over an emulator without a TPM
 pub record IsEmptySeat (name : HostName) (piece : ℕ) (s : SeatState PortState) : Type 0 where

@@ -23,6 +23,7 @@ pub(crate) fn fetch(wires: &mut MemWires, kind: Kind, from: u32, into: &mut [u8]
     ensures room { length into.new ≡ length into.old }
     ensures link { wires.new.link ≡ wires.old.link }
     ensures calls_to_fault { wires.new.calls_to_fault ≡ None }
+    ensures faults { wires.new.faults ≡ wires.old.faults }
 {
     state_blobs::laws::blobs_are_prefix_free();
     let Ok(got) = get_piece(wires, kind, from, into) else {
@@ -42,6 +43,7 @@ pub(crate) fn switch_on(wires: &mut MemWires, tpm: &Tpm)
     requires fresh { (piece : ℕ) × (wires.old ≡ fresh_wires None piece) }
     ensures link { (piece : ℕ) → wires.old ≡ fresh_wires None piece → wires.new.link ≡ record wires.old.link { emulator = switched_on tpm.now wires.old.link.emulator } }
     ensures calls_to_fault { wires.new.calls_to_fault ≡ None }
+    ensures faults { wires.new.faults ≡ wires.old.faults }
 {
     put_blob(wires, tpm, Kind::Permanent);
     put_blob(wires, tpm, Kind::Volatile);
@@ -58,6 +60,7 @@ fn put_blob(wires: &mut MemWires, tpm: &Tpm, kind: Kind)
     requires awaiting { IsAwaiting kind wires.old }
     ensures link { wires.new.link ≡ given_blob kind tpm.now wires.old.link }
     ensures calls_to_fault { wires.new.calls_to_fault ≡ None }
+    ensures faults { wires.new.faults ≡ wires.old.faults }
 {
     state_blobs::laws::blobs_are_prefix_free();
     let mut blob = [0; LARGEST_BLOB];

@@ -7,7 +7,7 @@
 //! the emulator, the bytes that wait on its two channels, and the call that is to fail.
 //!
 //! ```
-//! let mut seat = Seat::fresh(alloc, HostName::A, [0; SEED_SIZE], 4096)?;
+//! let mut seat = Seat::fresh(alloc, HostName::A, [0; SEED_SIZE], Banks::Two, 4096)?;
 //! let reply = seat.step(&Event::Work);
 //! let mut stream = Vec::new(alloc);
 //! let saved = seat.save(&mut stream)?;

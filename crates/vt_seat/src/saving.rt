@@ -36,7 +36,8 @@ pub enum Saved {
 
 impl Seat<PlainPort> {
     /// Appends the saved stream of this host: the record of its device and the blobs of its TPM. A command that was started
-    /// and that nobody has claimed is saved with the device. The seat goes on as before.
+    /// and that nobody has claimed is saved with the device. The seat goes on as before: its worker and its wires are as they
+    /// were, and of its host only the device took back an answer, where one was there.
     ///
     /// No call on its wires may be ordered to fail, and its device may not be lost.
     pub fn save(&mut self, into: &mut Vec<u8>) -> Result<Saved, AllocError>
@@ -44,7 +45,7 @@ impl Seat<PlainPort> {
         requires can { (b : Snapshot) × (s : OneHost) × CanSave b s (world_of self.old) }
         ensures saves { IfOk result (λ saved. (b : Snapshot) (s : OneHost) → CanSave b s (world_of self.old) → Saves b s.history saved into.old.items into.new.items) }
         ensures goes_on { (b : Snapshot) (s : OneHost) → CanSave b s (world_of self.old) → RefinesOneHost b s (world_of self.new) }
-        ensures others { self.new.host ≡ record self.old.host { device = self.new.host.device } }
+        ensures others { self.new ≡ record self.old { host = record self.old.host { device = self.new.host.device } } }
         ensures err { OnErr result (into.new.items ≡ into.old.items) }
     {
         tpm_core::laws::pasts_join();
@@ -107,6 +108,7 @@ fn append(device: &[u8], wires: &mut MemWires, into: &mut Vec<u8>) -> Result<(),
     ensures err { OnErr result (into.new.items ≡ into.old.items) }
     ensures link { wires.new.link ≡ wires.old.link }
     ensures calls_to_fault { wires.new.calls_to_fault ≡ None }
+    ensures faults { wires.new.faults ≡ wires.old.faults }
 {
     state_blobs::laws::blobs_are_prefix_free();
     let mut permanent = [0; LARGEST_BLOB];

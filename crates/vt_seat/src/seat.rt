@@ -17,7 +17,7 @@ use ctrl_client::{cancel, init};
 use move_core::{Host, Side};
 use std::alloc::{AllocError, Global};
 use std::marker::Model;
-use tpm_core::SEED_SIZE;
+use tpm_core::{Banks, SEED_SIZE};
 use vt_base::HostName;
 use vt_emulator::Emulator;
 use vt_script::{Event, Reply};
@@ -92,21 +92,22 @@ impl<P: Port> Seat<P> {
 }
 
 impl Seat<PlainPort> {
-    /// A running host of this name: a reset device over a TPM of this seed that was powered on once. A piece of its record
-    /// or of a blob has at most `piece` bytes.
+    /// A running host of this name: a reset device over a TPM of this seed and these banks that was powered on once. A
+    /// piece of its record or of a blob has at most `piece` bytes.
     pub fn fresh(
         alloc: Global,
         name: HostName,
         seed: [u8; SEED_SIZE],
+        banks: Banks,
         piece: u32,
     ) -> Result<Seat<PlainPort>, AllocError>
         requires least { 1 ≤ piece }
         requires most { piece ≤ 4096 }
-        ensures follows { IfOk result (λ s. Refines (fresh seed) [] (world_of s)) }
+        ensures follows { IfOk result (λ s. Refines (fresh seed banks) [] (world_of s)) }
         ensures made { IfOk result (StartsAs name piece) }
     {
         let device = Device::new(alloc, PlainPort::new())?;
-        let emulator = Emulator::new(alloc, seed, piece)?;
+        let emulator = Emulator::new(alloc, seed, banks, piece)?;
         let mut wires = MemWires::new(alloc, emulator)?;
         let Ok(()) = init(&mut wires, 0) else {
             unreachable!()

@@ -5,3 +5,4 @@ pub mod Placing
 pub mod Handing
 pub mod Movable
 pub mod Short
+pub mod Keeping

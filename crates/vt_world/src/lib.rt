@@ -6,7 +6,7 @@
 //! each line. [`World::guest`] does the lines of the guest alone, and takes no memory.
 //!
 //! ```
-//! let mut world = World::new(alloc, [0; SEED_SIZE], 4096)?;
+//! let mut world = World::new(alloc, [0; SEED_SIZE], Banks::Two, 4096)?;
 //! for line in lines {
 //!     let Some(event) = parse_line(line) else {
 //!         break;

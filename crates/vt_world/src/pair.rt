@@ -14,7 +14,7 @@ use crb_port::{PlainPort, Port};
 use move_core::Host;
 use std::alloc::{AllocError, Global};
 use std::marker::Model;
-use tpm_core::SEED_SIZE;
+use tpm_core::{Banks, SEED_SIZE};
 use vt_base::HostName;
 use vt_emulator::Emulator;
 use vt_seat::{MemWires, Seat};
@@ -39,22 +39,23 @@ impl<P: Port> Model for Pair<P> {
 }
 
 impl Pair<PlainPort> {
-    /// A reset device at A over a TPM of this seed that was powered on once, and B without a guest, over an emulator without a
+    /// A reset device at A over a TPM of this seed and these banks that was powered on once, and B without a guest, over an emulator without a
     /// TPM. A piece of a record or of a blob has at most `piece` bytes.
     pub fn fresh(
         alloc: Global,
         seed: [u8; SEED_SIZE],
+        banks: Banks,
         piece: u32,
     ) -> Result<Pair<PlainPort>, AllocError>
         requires least { 1 ≤ piece }
         requires most { piece ≤ 4096 }
-        ensures follows { IfOk result (λ w. Refines (fresh seed) [] (world_of w.a)) }
+        ensures follows { IfOk result (λ w. Refines (fresh seed banks) [] (world_of w.a)) }
         ensures a { IfOk result (λ w. StartsAs HostName.A piece w.a) }
         ensures b { IfOk result (λ w. IsEmptySeat HostName.B piece w.b) }
         ensures ready { IfOk result IsPairReady }
         ensures movable { IfOk result (IsMovable piece first_placement) }
     {
-        let a = Seat::fresh(alloc, HostName::A, seed, piece)?;
+        let a = Seat::fresh(alloc, HostName::A, seed, banks, piece)?;
         let b = Seat::empty(alloc, HostName::B, piece)?;
         Ok(Pair { a, b })
     }

@@ -1,12 +1,11 @@
 //! A world is saved, and made again from what was saved.
-ghost use Rattle.std.specs.Prelude.{◌≤◌, ◌≡◌, true, OnErr, IfOk};
+ghost use Rattle.std.specs.Prelude.{◌≤◌, ◌≡◌, ℕ, OnErr, IfOk};
 ghost use Rattle.crb_history.specs.Snapshot.{Snapshot};
-ghost use Rattle.vt_transcript.specs.Replies.{Transcript};
-ghost use Rattle.move_core.specs.Sides.{is_running};
 ghost use Rattle.saved_stream.specs.Headers.{wanted_after};
-ghost use Rattle.vt_seat.specs.Follows.{Refines};
-ghost use Rattle.vt_seat.specs.Seats.{world_of};
-ghost use Rattle.vt_world.specs.Saving.{CanSave, Saves, Loads};
+ghost use Rattle.two_hosts.specs.Hosts.{TwoHosts};
+ghost use Rattle.two_seats.specs.Both.{FollowsBoth};
+ghost use Rattle.vt_seat.specs.Saving.{Saves};
+ghost use Rattle.vt_world.specs.Saving.{CanSave, Loads, LoadedBegins};
 
 use crate::world::World;
 use std::alloc::{AllocError, Global};
@@ -33,16 +32,16 @@ impl World {
     }
 
     /// Appends the saved stream of host A: the record of its device and the blobs of its TPM. A command that was
-    /// started and that nobody has claimed is saved with the device. The world goes on as before. For lack of memory
-    /// nothing is appended.
+    /// started and that nobody has claimed is saved with the device. The world goes on as before: what is known of it is
+    /// known of it still, and of A only the device took back an answer, where one was there. For lack of memory nothing is
+    /// appended.
     ///
-    /// The guest runs at A. No call on its wires may be ordered to fail, and its device may not be lost.
+    /// The guest runs at A. No call on A's wires may be ordered to fail, and its device may not be lost.
     pub fn save(&mut self, alloc: Global, into: &mut Vec<u8>) -> Result<Saved, AllocError>
-        requires runs { is_running self.old.a.host.stage ≡ true }
-        requires can_save { (b : Snapshot) × (t : Transcript) × CanSave b t (world_of self.old.a) }
-        ensures saves { IfOk result (λ saved. (b : Snapshot) (t : Transcript) → CanSave b t (world_of self.old.a) → Saves b t saved into.old.items into.new.items) }
-        ensures goes_on { (b : Snapshot) (t : Transcript) → CanSave b t (world_of self.old.a) → Refines b t (world_of self.new.a) }
-        ensures others { (self.new.b ≡ self.old.b) × (self.new.bag ≡ self.old.bag) }
+        requires can_save { (b : Snapshot) × (piece : ℕ) × (t : TwoHosts) × CanSave b piece t self.old }
+        ensures saves { IfOk result (λ saved. (b : Snapshot) (piece : ℕ) (t : TwoHosts) → FollowsBoth b piece t self.old → Saves b t.history saved into.old.items into.new.items) }
+        ensures follows { (b : Snapshot) (piece : ℕ) (t : TwoHosts) → FollowsBoth b piece t self.old → FollowsBoth b piece t self.new }
+        ensures others { self.new ≡ record self.old { a = record self.old.a { host = record self.old.a.host { device = self.new.a.host.device } } } }
         ensures err { OnErr result (into.new.items ≡ into.old.items) }
     {
         let mut stream = Vec::new(alloc);
@@ -57,6 +56,7 @@ impl World {
         requires least { 1 ≤ piece }
         requires most { piece ≤ 4096 }
         ensures loads { IfOk result (Loads piece bytes.now) }
+        ensures begins { IfOk result (LoadedBegins piece) }
     {
         match Seat::load(alloc, HostName::A, bytes, piece)? {
             Ok(a) => {

@@ -1,5 +1,5 @@
 //! Two hosts, and the messages that were sent between them.
-ghost use Rattle.std.specs.Prelude.{◌≡◌, ◌≤◌, [], ℕ, true, None, Some, IfOk, OnErr};
+ghost use Rattle.std.specs.Prelude.{◌≡◌, ◌≤◌, [], ℕ, true, Some, IfOk, OnErr};
 ghost use Rattle.crb_history.specs.Snapshot.{Snapshot, fresh};
 ghost use Rattle.vt_transcript.specs.OneHost.{OneHost};
 ghost use Rattle.vt_transcript.specs.Plain.{is_plain};
@@ -10,16 +10,16 @@ ghost use Rattle.vt_script.specs.Replies.{IsPrintable};
 ghost use Rattle.vt_script.specs.Script.{HasNumber};
 ghost use Rattle.vt_script.specs.declared.event.Event.TheVariants.{Fail};
 ghost use Rattle.vt_seat.specs.Follows.{Refines, RefinesOneHost, StepRefinesOneHost};
-ghost use Rattle.vt_seat.specs.Seats.{world_of};
+ghost use Rattle.vt_seat.specs.Seats.{world_of, StartsAs, IsEmptySeat};
 ghost use Rattle.vt_seat.specs.Wires.{emulator_of};
-ghost use Rattle.vt_world.specs.Worlds.{KeepsOthers, IsWorldReady};
+ghost use Rattle.vt_world.specs.Worlds.{KeepsOthers, IsWorldReady, takes_memory};
 
 use crb_port::PlainPort;
 use move_codec::Message;
 use move_core::Host;
 use std::alloc::{AllocError, Global};
 use std::marker::Model;
-use tpm_core::SEED_SIZE;
+use tpm_core::{Banks, SEED_SIZE};
 use vt_base::HostName;
 use vt_emulator::Emulator;
 use vt_script::{Event, Reply};
@@ -46,17 +46,25 @@ impl Model for World {
 }
 
 impl World {
-    /// A reset device at A over a TPM of this seed that was powered on once, and B without a guest, over an emulator without
-    /// a TPM. No message was sent. A piece of a record or of a blob has at most `piece` bytes.
-    pub fn new(alloc: Global, seed: [u8; SEED_SIZE], piece: u32) -> Result<World, AllocError>
+    /// A reset device at A over a TPM of this seed and these banks that was powered on once, and B without a guest, over an emulator without
+    /// a TPM. No message was sent, no call is ordered to fail, and none has failed. A piece of a record or of a blob has at most
+    /// `piece` bytes.
+    pub fn new(
+        alloc: Global,
+        seed: [u8; SEED_SIZE],
+        banks: Banks,
+        piece: u32,
+    ) -> Result<World, AllocError>
         requires least { 1 ≤ piece }
         requires most { piece ≤ 4096 }
-        ensures follows { IfOk result (FollowsBoth (fresh seed) piece (first_hosts (fresh seed))) }
-        ensures at_a { IfOk result (λ w. Refines (fresh seed) [] (world_of w.a)) }
+        ensures follows { IfOk result (FollowsBoth (fresh seed banks) piece (first_hosts (fresh seed banks))) }
+        ensures at_a { IfOk result (λ w. Refines (fresh seed banks) [] (world_of w.a)) }
         ensures runs { IfOk result (λ w. is_running w.a.host.stage ≡ true) }
+        ensures a { IfOk result (λ w. StartsAs HostName.A piece w.a) }
+        ensures b { IfOk result (λ w. IsEmptySeat HostName.B piece w.b) }
         ensures ready { IfOk result IsWorldReady }
     {
-        let a = Seat::fresh(alloc, HostName::A, seed, piece)?;
+        let a = Seat::fresh(alloc, HostName::A, seed, banks, piece)?;
         let b = Seat::empty(alloc, HostName::B, piece)?;
         Ok(World {
             a,
@@ -72,6 +80,8 @@ impl World {
         ensures steps { IfOk result (λ reply. (b : Snapshot) (piece : ℕ) (t : TwoHosts) → FollowsBoth b piece t self.old → StepsBoth b piece t line.now reply self.new) }
         ensures faults { IfOk result (λ reply. (b : Snapshot) (piece : ℕ) (t : TwoHosts) → FollowsBoth b piece t self.old → CountsBoth t line.now reply self.old self.new) }
         ensures same { OnErr result (self.new ≡ self.old) }
+        ensures others { IfOk result (λ reply. is_plain line.now ≡ true → KeepsOthers self.old self.new) }
+        ensures memory { OnErr result (takes_memory line.now ≡ true) }
         ensures printable { IfOk result IsPrintable }
     {
         match line {

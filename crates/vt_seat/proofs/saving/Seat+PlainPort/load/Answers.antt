@@ -44,4 +44,6 @@ returns-in_ok-host-in-Ok-2-clause-made c =
       record_piece = ap (λ (h : HostModel PortState). h.piece) host;
       blob_piece = ap (λ (s : SeatState PortState). s.link.emulator.piece) c.new-seat.ensures.seat ∙ ap (λ (l : Link). l.emulator.piece) link;
       free = ap (λ (s : SeatState PortState). s.progress) c.new-seat.ensures.seat;
+      calls_to_fault = ap (λ (s : SeatState PortState). s.calls_to_fault) c.new-seat.ensures.seat ∙ c.switch_on.ensures.calls_to_fault;
+      faults = ap (λ (s : SeatState PortState). s.faults) c.new-seat.ensures.seat ∙ c.switch_on.ensures.faults ∙ ap (λ (w : WiresState). w.faults) c.in_ok-wires-in-Ok-2.ensures.wires;
     }

@@ -4,6 +4,8 @@ use Rattle.two_seats.specs.Both.{TwoSeats, FollowsBoth, CountsBoth, one_of, runn
 use Rattle.two_seats.proofs.Counting.{guest_counts}
 use Rattle.two_seats.proofs.Lines.{guest_steps, stopped_steps, follows_one, runs_here}
 use Rattle.two_seats.proofs.Seating.{running-same}
+use Rattle.vt_world.proofs.Keeping.{others_at_a, others_at_b, others_stopped}
+use Rattle.vt_world.specs.Worlds.{KeepsOthers}
 use Rattle.vt_world.proofs.world.World.guest.Goals as goal
 
 pub returns-in-Some-A-clause-steps : goal.returns-in-Some-A-clause-steps
@@ -45,3 +47,18 @@ returns-in-Some-B-clause-faults c = λ b piece t f.
     let on : running_of w ≡ Some B = ap running_of c.self.view_is ∙ sym c.running.ensures.running ∙ c.in-Some-B.is ∙ ap Some c.in-Some-B.field-0-is in
     subst (λ (old : TwoSeats). CountsBoth t c.args.line.now c.step-in-Some-B.result old (record { a = w.a; b = c.step-in-Some-B.new.self; bag = w.bag })) c.self.view_is
     (guest_counts b piece t w B c.args.line.now c.step-in-Some-B.result c.step-in-Some-B.new.self c.requires.plain here on (c.step-in-Some-B.ensures.faults b (one_of t B) (follows_one b piece t w B here (runs_here w B on))))
+
+pub returns-in-Some-A-clause-others : goal.returns-in-Some-A-clause-others
+returns-in-Some-A-clause-others c =
+    let w : TwoSeats = record { a = c.self.inside.a; b = c.self.inside.b; bag = c.self.inside.bag.items } in
+    let on : running_of w ≡ Some A = ap running_of c.self.view_is ∙ sym c.running.ensures.running ∙ c.in-Some-A.is ∙ ap Some c.in-Some-A.field-0-is in
+    subst (λ (old : TwoSeats). KeepsOthers old (record w { a = c.step.new.self })) c.self.view_is (others_at_a w c.step.new.self on c.step.ensures.others)
+
+pub returns-in-Some-B-clause-others : goal.returns-in-Some-B-clause-others
+returns-in-Some-B-clause-others c =
+    let w : TwoSeats = record { a = c.self.inside.a; b = c.self.inside.b; bag = c.self.inside.bag.items } in
+    let on : running_of w ≡ Some B = ap running_of c.self.view_is ∙ sym c.running.ensures.running ∙ c.in-Some-B.is ∙ ap Some c.in-Some-B.field-0-is in
+    subst (λ (old : TwoSeats). KeepsOthers old (record w { b = c.step-in-Some-B.new.self })) c.self.view_is (others_at_b w c.step-in-Some-B.new.self on c.step-in-Some-B.ensures.others)
+
+pub returns-in-None-clause-others : goal.returns-in-None-clause-others
+returns-in-None-clause-others c = others_stopped c.args.self.now (sym c.running.ensures.running ∙ c.in-None.is)
