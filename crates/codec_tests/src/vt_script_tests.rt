@@ -3,7 +3,7 @@ ghost use Rattle.vt_script.specs.Replies.{IsPrintable};
 use crb_regs::Access;
 use std::alloc::{AllocError, Global};
 use std::test::Fail;
-use vt_base::{Bytes, HostName, Reason};
+use vt_base::{Bytes, Failed, HostName, MemSource, Reason, Source};
 use vt_script::*;
 
 // Offset, size and value of the access that a line asks for.
@@ -189,29 +189,126 @@ fn not_in_the_grammar(rt: HostRuntime) {
     }
 }
 
-// The lines of a text whose last line has no end.
-const LINES: [&[u8]; 4] = [b"r 0 4", b"", b" work", b"last"];
+// A source that gives at most one byte a read.
+#[derive(Drop)]
+struct OneByOne<S> {
+    inner: S,
+}
 
-// Whether these are the lines of a text, one after another.
-fn has_lines(text: &[u8], lines: &[&[u8]]) -> bool {
-    let mut rest = text;
-    for wanted in lines {
-        if rest.is_empty() {
-            return false;
+impl<S: Source> Source for OneByOne<S> {
+    ghost left = { λ s. S.left s.inner };
+
+    ghost faults = { λ s. S.faults s.inner };
+
+    ghost never_fails = { λ s. S.never_fails s.inner };
+
+    fn read(&mut self, into: &mut [u8]) -> Result<usize, Failed> {
+        if into.is_empty() {
+            return self.inner.read(into);
         }
-        let (line, after) = first_line(rest);
-        if line != *wanted {
-            return false;
-        }
-        rest = after;
+        self.inner.read(&mut into[..1])
     }
-    rest.is_empty()
+}
+
+// A source of a text, one byte a read, of which some fail.
+fn source_of(
+    alloc: Global,
+    text: &[u8],
+    failing: &[u64],
+) -> Result<OneByOne<MemSource>, AllocError> {
+    let bytes = Bytes::from_slice(alloc, text)?;
+    let inner = MemSource::new(bytes, Vec::from_slice(alloc, failing)?);
+    Ok(OneByOne { inner })
+}
+
+// Whether these lines come next, and then something else.
+fn gives<S: Source>(
+    alloc: Global,
+    lines: &mut Lines,
+    source: &mut S,
+    wanted: &[&[u8]],
+    then: Next,
+) -> Result<bool, AllocError> {
+    for line in wanted {
+        if lines.next(alloc, source)? != Next::Line || lines.line() != *line {
+            return Ok(false);
+        }
+    }
+    Ok(lines.next(alloc, source)? == then)
+}
+
+/// A text and its lines.
+type Text = (&'static [u8], &'static [&'static [u8]]);
+
+static TEXTS_OF_LINES: [Text; 4] = [
+    (b"", &[]),
+    (b"\n", &[b""]),
+    (b"work\n", &[b"work"]),
+    (b"r 0 4\n\n work\nlast", &[b"r 0 4", b"", b" work", b"last"]),
+];
+
+// Whether a text has its lines, however few bytes a read gives.
+fn has_lines(alloc: Global, text: &Text) -> Result<bool, AllocError> {
+    let mut source = source_of(alloc, text.0, &[])?;
+    let mut lines = Lines::new(alloc)?;
+    gives(alloc, &mut lines, &mut source, text.1, Next::End)
 }
 
 #[test]
-fn lines(rt: HostRuntime) {
-    assert!(rt; has_lines(b"r 0 4\n\n work\nlast", &LINES));
-    assert!(rt; has_lines(b"work\n", &[b"work"]));
+fn lines_of_texts(rt: HostRuntime) -> Result<(), Fail> {
+    for (i, text) in TEXTS_OF_LINES.iter().enumerate() {
+        assert!(rt; has_lines(rt.alloc(), text)?, "text {i}");
+    }
+    Ok(())
+}
+
+#[test]
+fn lines_before_a_fault(rt: HostRuntime) -> Result<(), Fail> {
+    let alloc = rt.alloc();
+    // The tenth read would give the fourth byte of the third line.
+    let mut source = source_of(alloc, b"ab\ncd\nefgh\n", &[10])?;
+    let mut lines = Lines::new(alloc)?;
+    assert!(rt;
+        gives(
+            alloc,
+            &mut lines,
+            &mut source,
+            &[b"ab", b"cd"],
+            Next::ReadFault
+        )?
+    );
+    // The bytes before the fault are still there.
+    assert!(rt; gives(alloc, &mut lines, &mut source, &[b"efgh"], Next::End)?);
+    assert!(rt; lines.number() == 3);
+    Ok(())
+}
+
+#[test]
+fn a_line_waits_in_the_buffer(rt: HostRuntime) -> Result<(), Fail> {
+    let alloc = rt.alloc();
+    let bytes = Bytes::from_slice(alloc, b"a\nb\nc")?;
+    let mut source = MemSource::new(bytes, Vec::new(alloc));
+    let mut lines = Lines::new(alloc)?;
+    let first = lines.next(alloc, &mut source)?;
+    assert!(rt; first == Next::Line && lines.has_line());
+    let second = lines.next(alloc, &mut source)?;
+    assert!(rt; second == Next::Line && !lines.has_line());
+    Ok(())
+}
+
+// Whether a line of so many bytes, without an end, gives this.
+fn gives_at_length(alloc: Global, length: usize, then: Next) -> Result<bool, AllocError> {
+    let text = vec![in alloc; b'x'; length]?;
+    let mut source = source_of(alloc, &text, &[])?;
+    let mut lines = Lines::new(alloc)?;
+    Ok(lines.next(alloc, &mut source)? == then)
+}
+
+#[test]
+fn long_lines(rt: HostRuntime) -> Result<(), Fail> {
+    assert!(rt; gives_at_length(rt.alloc(), 8256, Next::Line)?);
+    assert!(rt; gives_at_length(rt.alloc(), 8257, Next::TooLong(1))?);
+    Ok(())
 }
 
 fn prints(alloc: Global, reply: Reply, text: &[u8]) -> Result<bool, AllocError>

@@ -33,7 +33,7 @@ use Rattle.vt_script.specs.Drive.{hex_line}
 use Rattle.vt_script.specs.declared.drive.DriveLine.TheVariants.{Cmd, Move}
 use Rattle.script_run.specs.Calls.{Calls, IsAtRest, IsWaiting, Responds}
 use Rattle.script_run.specs.Placed.{pieces_of_move}
-use Rattle.script_run.specs.Loop.{HasDriven}
+use Rattle.script_run.specs.Calls.{HasDriven}
 use Rattle.script_run.specs.Start.{base_of}
 use Rattle.script_run.specs.declared.start.Start.{Start}
 use Rattle.script_run.proofs.Prefixes.{driven-start}

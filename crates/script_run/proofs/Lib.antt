@@ -1,12 +1,9 @@
 pub mod Prefixes
-pub mod Writing
 pub mod Endings
-pub mod Lines
 pub mod Driving
 pub mod Answering
 pub mod Suspending
 pub mod Resuming
-pub mod Inputs
 pub mod Numerals
 pub mod Words
 pub mod Tasks
@@ -15,3 +12,4 @@ pub mod Guests
 pub mod Placing
 pub mod Bulks
 pub mod Completing
+pub mod Looped

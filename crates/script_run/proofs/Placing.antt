@@ -9,8 +9,7 @@ use Rattle.vt_script.specs.declared.drive.DriveLine.{DriveLine}
 use Rattle.vt_script.specs.declared.drive.DriveLine.TheVariants.{Cmd, Move, MoveFail}
 use Rattle.vt_world.specs.State.{PairState}
 use Rattle.vt_world.specs.Placement.{Placement, moved, top_of}
-use Rattle.script_run.specs.Calls.{CanRespond}
-use Rattle.script_run.specs.Loop.{HasDriven}
+use Rattle.script_run.specs.Calls.{CanRespond, HasDriven}
 use Rattle.script_run.specs.Placed.{placed, pieces_of_move, tpm_after}
 use Rattle.script_run.specs.declared.start.Start.{Start}
 

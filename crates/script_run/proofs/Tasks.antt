@@ -1,16 +1,17 @@
 -- Words that are those of one task.
-use Rattle.std.proofs.Common.{◌≡◌, ◌≤◌, ◌<◌, ◌^◌, ℕ, zero, suc, Bool, true, false, List, [], ◌∷◌, length, get_or, refl, ap, sym, ◌∙◌, subst, arith, Some, None, Global}
+use Rattle.std.proofs.Common.{◌≡◌, ◌≤◌, ◌<◌, ◌^◌, ℕ, List, [], ◌∷◌, length, get_or, refl, ap, sym, ◌∙◌, subst, arith, Some, None, Global, inl, inr}
 use Rattle.std.specs.Prelude.{Option, String, map, option_map, unwrap_or, IfSome, if◌then◌else◌}
 use Rattle.std.specs.String.{string_bytes}
 use Rattle.std.specs.Fmt.{decimal}
 use Rattle.std.specs.Str.{bytes_eq}
 use lib.Chars.{codes}
 use Rattle.script_run.specs.Start.{default_start}
-use Rattle.script_run.specs.Words.{BulkWords, HasPiece, IsPiece, PieceWords, ResumeWords, StartWords, TaskWords}
+use Rattle.script_run.specs.Words.{AddInOrder, Adds, AreOptions, BulkWords, HasPiece, IsPiece, ResumeWords, StartWords, TaskWords, no_options}
 use Rattle.script_run.specs.declared.action.Action.{Action}
 use Rattle.script_run.specs.declared.action.Action.TheVariants.{Replay, Drive, Suspend, Resume, Check}
 use Rattle.script_run.specs.declared.action.Task.{Task}
 use Rattle.script_run.specs.declared.action.Task.TheVariants.{Read, Bulk}
+use Rattle.script_run.specs.declared.options.Options.{Options}
 use Rattle.script_run.specs.declared.start.Start.{Start}
 use Rattle.script_run.proofs.Numerals.{one-number}
 use Rattle.script_run.proofs.Words.{one-some}
@@ -184,17 +185,32 @@ unfolding default_start
 default-piece = record { least = omega arith; most = omega arith }
 
 -- the pieces of options have a size that is allowed
-given-piece : (given : Option ℕ) (words : List (List ℕ)) → PieceWords given words → IsPiece (unwrap_or given default_start.piece)
-given-piece None words is = default-piece
-given-piece (Some piece) words (small, option) = small
+abbrev GivenPiece : Options → Type 0
+GivenPiece given = IfSome given.piece IsPiece
+
+added-piece : (old new : Options) (name value : List ℕ) → Adds old name value new → GivenPiece old → GivenPiece new
+added-piece old new name value (inl (named, none, piece, is, small, same)) before = rw same small
+added-piece old new name value (inr (inl (named, none, seed, is, same))) before = rw same before
+added-piece old new name value (inr (inr (named, none, banks, is, same))) before = rw same before
+
+all-pieces : (options : List (List ℕ × List ℕ)) (given all : Options) (words : List (List ℕ)) → AddInOrder options given all words → GivenPiece given → GivenPiece all
+all-pieces [] given all words (ends, is) before = rw is before
+all-pieces (option ∷ options) given all words (behind, new, splits, adds, rest) before = all-pieces options new all behind rest (added-piece given new option.0 option.1 adds before)
+
+piece-or : (given : Option ℕ) → IfSome given IsPiece → IsPiece (unwrap_or given default_start.piece)
+piece-or None small = default-piece
+piece-or (Some piece) small = small
+
+given-piece : (all : Options) (words : List (List ℕ)) → AreOptions all words → IsPiece (unwrap_or all.piece default_start.piece)
+given-piece all words (options, are) = piece-or all.piece (all-pieces options no_options all words are tt)
 
 start-piece : (start : Start) (words : List (List ℕ)) → StartWords start words → IsPiece start.piece
-start-piece start words has = subst IsPiece (sym (ap (λ s. s.piece) has.same)) (given-piece has.given.piece has.options.piece_words has.options.piece)
+start-piece start words has = subst IsPiece (sym (ap (λ s. s.piece) has.same)) (given-piece has.given words has.options)
 
 -- so have those of each action
 pub has-piece : (action : Action) (words : List (List ℕ)) → TaskWords (Read action) words → HasPiece action
 has-piece (Replay start) words begins = start-piece start begins.rest begins.holds
 has-piece (Drive start) words begins = start-piece start begins.rest begins.holds
 has-piece (Suspend start) words begins = start-piece start begins.rest begins.holds
-has-piece (Resume piece) words begins = subst IsPiece (sym begins.holds.same) (given-piece begins.holds.given.piece begins.holds.options.piece_words begins.holds.options.piece)
+has-piece (Resume piece) words begins = subst IsPiece (sym begins.holds.same) (given-piece begins.holds.given begins.rest begins.holds.options)
 has-piece Check words begins = tt

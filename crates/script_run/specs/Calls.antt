@@ -15,8 +15,8 @@ use Rattle.vt_world.specs.Pairs.{running_world}
 use Rattle.vt_world.specs.State.{PairState}
 use Rattle.vt_world.specs.Placement.{Placement, running_top}
 use Rattle.vt_world.specs.Movable.{IsMovable}
-use Rattle.script_run.specs.Driven.{past_with, written_for}
-use Rattle.script_run.specs.Placed.{pieces_of_move, placed_by}
+use Rattle.script_run.specs.Driven.{past_of, past_with, written_for}
+use Rattle.script_run.specs.Placed.{pieces_of_move, placed, placed_by}
 use Rattle.script_run.specs.Start.{base_of}
 use Rattle.script_run.specs.declared.start.Start.{Start}
 
@@ -51,3 +51,9 @@ pub record Responds (start : Start) (p : History) (s : Placement) (line : DriveL
   pub waits : IsWaiting start history (placed_by line (pieces_of_move start.piece (tpm_at (base_of start) p)) s) w
   pub past : executed (base_of start) history ≡ past_with line (executed (base_of start) p)
   pub appended : new ≡ old ++ written_for (base_of start).tpm (executed (base_of start) p) line
+
+-- the commands of these lines were executed and their moves were made, and the guest waits for the next line
+pub record HasDriven (start : Start) (lines : List DriveLine) (pair : PairState PortState) : Type 0 where
+  pub history : History
+  pub waits : IsWaiting start history (placed start lines) pair
+  pub past : executed (base_of start) history ≡ past_of lines

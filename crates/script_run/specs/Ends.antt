@@ -12,6 +12,7 @@ use Rattle.two_hosts.specs.Hosts.{hosts_after}
 use Rattle.two_seats.specs.Both.{TwoSeats, FollowsBoth}
 use Rattle.vt_script.specs.Script.{lines_of}
 use Rattle.vt_world.specs.State.{PairState}
+use Rattle.script_run.specs.Calls.{HasDriven}
 use Rattle.script_run.specs.Placed.{HaveDriven}
 use Rattle.script_run.specs.Run.{IsRunOf, meanings, in_order, spelled, latest_first}
 use Rattle.script_run.specs.Saved.{Resumption}
@@ -32,13 +33,15 @@ abbrev pub HandsOut : (End → Type 0) → Status → End → Type 0
 HandsOut Hands Ok end = Hands end
 HandsOut Hands _ end = end ≡ Nothing
 
--- the two hosts that did all drive lines
+-- The two hosts that did all drive lines: they are placed so, and the guest waits for its next command. So a caller can have a driver do
+-- one, or move the guest.
 pub record HandsPair (start : Start) (AreAll : List DriveLine → Type 0) (end : End) : Type 0 where
   pub lines : List DriveLine
   pub pair : PairState PortState
   pub is : end ≡ Pair pair
   pub all : AreAll lines
   pub driven : HaveDriven start lines pair
+  pub waits : HasDriven start lines pair
 
 -- The world that did all lines of a script from these values on: each of its two hosts and the messages between them are where the
 -- one run of these lines leads.

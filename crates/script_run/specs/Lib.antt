@@ -9,6 +9,7 @@ pub mod Words
 pub mod Reading
 pub mod Saved
 pub mod Actions
-pub mod Cursor
 pub mod Loop
 pub mod Ends
+pub mod Fronts
+pub mod Causes

@@ -1,9 +1,7 @@
 -- What the program writes.
 use Rattle.std.specs.Prelude.{◌≡◌, ◌≤◌, ◌⊎◌, ℕ, ◌+◌, ◌<◌, List, [], ◌∷◌, ◌++◌, length, take, map, slice_get, Option, Some, None}
-use Rattle.std.specs.Io.KnownBytes.{Appends}
-use lib.Chars.{codes}
 use Rattle.vt_base.specs.declared.status.Status.{Status}
-use Rattle.vt_base.specs.declared.status.Status.TheVariants.{Ok, Usage, Script, ReadFault, WriteFault, Memory, Limit, Refused, NotYet}
+use Rattle.vt_base.specs.declared.status.Status.TheVariants.{Ok}
 use Rattle.vt_script.specs.Script.{lines_of, event_of}
 use Rattle.vt_script.specs.Replies.{reply_text, numbered}
 use Rattle.vt_script.specs.Drive.{drive_of}
@@ -12,7 +10,7 @@ use Rattle.crb_history.specs.Snapshot.{Snapshot}
 use Rattle.vt_transcript.specs.Replies.{Transcript, line_of}
 use Rattle.two_hosts.specs.Replies.{IsRun}
 use Rattle.script_run.specs.Driven.{driven}
-use Rattle.script_run.specs.Output.{SinkView, Wrote, Breaks}
+pub use Rattle.line_loop.specs.Inputs.{InputReading, PrintsFirst, PrintsBadLine, PrintsLimit, PrintsFault, IsToPrint, Prints, Writes, Leaves, IsCramped, IsGood, after_lines, AreShort, IsWithinLimits, IsLine, PassesLimitAt, HasRead}
 use Rattle.script_run.specs.Start.{base_of}
 use Rattle.script_run.specs.declared.start.Start.{Start}
 
@@ -44,17 +42,19 @@ pub record IsRunOf (b : Snapshot) (piece : ℕ) (script : List ℕ) (t : Transcr
   pub lines : in_order line_of t ≡ take (length t) (meanings event_of script)
   pub run : IsRun b piece t
 
--- An input as a command reads it: the first n lines may give an output, line n may not be in the grammar, and at the end
--- of the input a status may come with an output.
-pub record InputReading : Type 1 where
-  pub input : List ℕ
-  pub Gives : ℕ → List ℕ → Type 0
-  pub IsBad : ℕ → Type 0
-  pub Ends : Status → List ℕ → Type 0
+-- ---- an input, as a command reads it
 
--- the end of the input says no more than what all lines give
+-- line n may be read, and isn't in a grammar
+abbrev pub IsOutside : {L : Type 0} → (List ℕ → Option L) → List ℕ → ℕ → Type 0
+IsOutside grammar script n = (line : List ℕ) × IsLine script n line × (grammar line ≡ None)
+
+-- a read fails where the LF of n lines was read, which give this
+abbrev pub FaultsBehind : (ℕ → List ℕ → Type 0) → List ℕ → List ℕ → List ℕ → Type 0
+FaultsBehind Gives script output left = (n : ℕ) × Gives n output × HasRead script n left
+
+-- the end of a script that is within the limits says no more than what all lines give
 abbrev pub GivesAll : (ℕ → List ℕ → Type 0) → List ℕ → Status → List ℕ → Type 0
-GivesAll Gives script status output = (status ≡ Ok) × Gives (length (lines_of script)) output
+GivesAll Gives script status output = (status ≡ Ok) × IsWithinLimits script × Gives (length (lines_of script)) output
 
 -- as a script that goes on from these values: replies of one device over one TPM, between two hosts
 abbrev pub RepliesTo : Snapshot → ℕ → List ℕ → ℕ → List ℕ → Type 0
@@ -62,9 +62,10 @@ RepliesTo b piece script n output = (t : Transcript) × IsRunOf b piece script t
 
 abbrev pub followed : Snapshot → ℕ → List ℕ → InputReading
 followed b piece script = record {
-  input = script;
   Gives = RepliesTo b piece script;
-  IsBad = λ n. slice_get (meanings event_of script) n ≡ Some None;
+  IsBad = IsOutside event_of script;
+  PassesLimit = PassesLimitAt script;
+  Faults = FaultsBehind (RepliesTo b piece script) script;
   Ends = GivesAll (RepliesTo b piece script) script;
 }
 
@@ -79,65 +80,9 @@ Responses start script n output =
 
 abbrev pub driven_by : Start → List ℕ → InputReading
 driven_by start script = record {
-  input = script;
   Gives = Responses start script;
-  IsBad = λ n. slice_get (meanings drive_of script) n ≡ Some None;
+  IsBad = IsOutside drive_of script;
+  PassesLimit = PassesLimitAt script;
+  Faults = FaultsBehind (Responses start script) script;
   Ends = GivesAll (Responses start script) script;
 }
-
--- the input isn't too long
-abbrev pub IsShort : List ℕ → Type 0
-IsShort input = length input ≤ 1048576
-
--- what the first lines give, and nothing else
-abbrev pub PrintsFirst : InputReading → List ℕ → Type 0
-PrintsFirst r output = (n : ℕ) × r.Gives n output
-
--- what the end of the input gives
-abbrev pub PrintsEnd : Status → InputReading → List ℕ → Type 0
-PrintsEnd status r output = IsShort r.input × r.Ends status output
-
--- what the lines before the first one give that isn't in the grammar, and its number
-abbrev pub PrintsBadLine : InputReading → List ℕ → Type 0
-PrintsBadLine r output = IsShort r.input × (n : ℕ) × (before : List ℕ) × r.Gives n before × r.IsBad n
-    × (output ≡ before ++ numbered (codes "bad line ") (n + 1))
-
--- the input is too long, and that alone is said
-abbrev pub PrintsLongInput : InputReading → List ℕ → Type 0
-PrintsLongInput r output = (1048576 < length r.input) × (output ≡ codes "long input" ++ 10 ∷ [])
-
--- what was to be written, had the sink not failed
-abbrev pub IsToPrint : InputReading → List ℕ → Type 0
-IsToPrint r all = (IsShort r.input × PrintsFirst r all) ⊎ (PrintsBadLine r all ⊎ (PrintsLongInput r all ⊎ ((status : Status) × PrintsEnd status r all)))
-
--- what is written for an input, by the status
-abbrev pub Prints : Status → InputReading → List ℕ → Type 0
-Prints Ok r output = PrintsEnd Ok r output
-Prints Refused r output = PrintsEnd Refused r output
-Prints NotYet r output = PrintsEnd NotYet r output
-Prints Script r output = PrintsBadLine r output
-Prints Limit r output = PrintsLongInput r output
-Prints Memory r output = (output ≡ []) ⊎ PrintsFirst r output
-Prints ReadFault r output = output ≡ []
-Prints WriteFault r output = (rest : List ℕ) × IsToPrint r (output ++ rest)
-Prints Usage r output = ⊥
-
--- where the output is known, it grows by what the status says
-abbrev pub Writes : Status → InputReading → Option (List ℕ) → Option (List ℕ) → Type 0
-Writes status r old new = (output : List ℕ) × Appends old new output × Prints status r output
-
--- some output for the input is longer than the promised room
-abbrev pub IsCramped : InputReading → ℕ → Type 0
-IsCramped r room = (all : List ℕ) × IsToPrint r all × (length all ≤ room → ⊥)
-
--- what a run leaves in the sink once its input was read
-abbrev pub Leaves : Status → InputReading → SinkView → SinkView → Type 0
-Leaves WriteFault r old new = (all : List ℕ) × IsToPrint r all × Breaks old new all
-Leaves ReadFault r old new = ⊥
-Leaves status r old new = (output : List ℕ) × Wrote old new output × Prints status r output
-
--- the input isn't too long, each line is in the grammar, and its end gives nothing but a good end
-pub record IsGood (r : InputReading) : Type 0 where
-  pub short : IsShort r.input
-  pub lines : (n : ℕ) → r.IsBad n → ⊥
-  pub ends : (status : Status) (output : List ℕ) → r.Ends status output → status ≡ Ok

@@ -1,5 +1,5 @@
 -- What the commands write that save a host, go on from a saved one, or check what was saved. (Own definitions.)
-use Rattle.std.specs.Prelude.{◌≡◌, ◌≢◌, ℕ, true, List, [], ◌∷◌, ◌++◌, length, take, slice_get, Option, Some, None, option_and_then}
+use Rattle.std.specs.Prelude.{◌≡◌, ◌≢◌, ◌<◌, ◌⊎◌, ℕ, true, List, [], ◌∷◌, ◌++◌, length, take, Option, Some, None, option_and_then}
 use Rattle.std.specs.Fmt.{decimal}
 use lib.Chars.{codes}
 use Rattle.vt_base.specs.declared.status.Status.{Status}
@@ -19,7 +19,8 @@ use Rattle.vt_transcript.specs.Plain.{plain_history}
 use Rattle.vt_transcript.specs.Replies.{is_under_way}
 use Rattle.saved_stream.specs.Streams.{encode_stream, IsStream}
 use Rattle.saved_stream.specs.Refusals.{IsStreamRefused}
-use Rattle.script_run.specs.Run.{InputReading, meanings, in_order, followed}
+use Rattle.saved_stream.specs.Headers.{wanted_after}
+use Rattle.script_run.specs.Run.{InputReading, IsWithinLimits, PassesLimitAt, IsOutside, FaultsBehind, meanings, in_order, followed}
 use Rattle.script_run.specs.Start.{base_of}
 use Rattle.script_run.specs.declared.start.Start.{Start}
 
@@ -75,13 +76,18 @@ SuspendsAt b p Ok output = MaySuspend b p × (output ≡ encode_stream (snapshot
 SuspendsAt b p NotYet output = (is_under_way b p ≡ true) × (output ≡ not_yet_text (number_of b p))
 SuspendsAt b p status output = ⊥
 
+-- the first n lines are the guest's, and have no replies
+abbrev pub GuestLines : List ℕ → ℕ → List ℕ → Type 0
+GuestLines script n output = (lines : List Line) × (in_order Some lines ≡ take (length lines) (meanings plain_event_of script)) × (length lines ≡ n) × (output ≡ [])
+
 -- as a script of `suspend`: its lines have no replies
 abbrev pub suspended : Start → List ℕ → InputReading
 suspended start script = record {
-  input = script;
-  Gives = λ n output. (lines : List Line) × (in_order Some lines ≡ take (length lines) (meanings plain_event_of script)) × (length lines ≡ n) × (output ≡ []);
-  IsBad = λ n. slice_get (meanings plain_event_of script) n ≡ Some None;
-  Ends = λ status output. (lines : List Line) × AreLines script lines × SuspendsAt (base_of start) (plain_history (base_of start) lines) status output;
+  Gives = GuestLines script;
+  IsBad = IsOutside plain_event_of script;
+  PassesLimit = PassesLimitAt script;
+  Faults = FaultsBehind (GuestLines script) script;
+  Ends = λ status output. (lines : List Line) × IsWithinLimits script × AreLines script lines × SuspendsAt (base_of start) (plain_history (base_of start) lines) status output;
 }
 
 -- ---- resume
@@ -102,11 +108,16 @@ abbrev pub ResumesTo : ℕ → List ℕ → Status → List ℕ → Type 0
 ResumesTo piece input Refused output = (fault : Malformed) × IsFrontRefused fault input × (output ≡ refused_text fault)
 ResumesTo piece input status output = (from : Resumption input) × (followed from.base piece from.script).Ends status output
 
+-- the first bytes of the input are read, and more of a stream are wanted; these are unread
+abbrev pub IsInFront : List ℕ → List ℕ → Type 0
+IsInFront input left = (front : List ℕ) × (input ≡ front ++ left) × (0 < wanted_after front)
+
 abbrev pub resumed : ℕ → List ℕ → InputReading
 resumed piece input = record {
-  input = input;
   Gives = λ n output. (from : Resumption input) × (followed from.base piece from.script).Gives n output;
   IsBad = λ n. (from : Resumption input) × (followed from.base piece from.script).IsBad n;
+  PassesLimit = λ n text. (from : Resumption input) × (followed from.base piece from.script).PassesLimit n text;
+  Faults = λ output left. ((output ≡ []) × IsInFront input left) ⊎ ((from : Resumption input) × (followed from.base piece from.script).Faults output left);
   Ends = ResumesTo piece input;
 }
 
@@ -119,8 +130,9 @@ ChecksTo input status output = ⊥
 
 abbrev pub checked : List ℕ → InputReading
 checked input = record {
-  input = input;
   Gives = λ n output. output ≡ [];
   IsBad = λ n. ⊥;
+  PassesLimit = λ n text. ⊥;
+  Faults = λ output left. output ≡ [];
   Ends = ChecksTo input;
 }

@@ -1,10 +1,12 @@
 -- The words of a run, and what is written for others. (Own definitions.)
-use Rattle.std.specs.Prelude.{◌≡◌, ◌≤◌, ◌⊎◌, ◌-◌, ◌^◌, ◌==◌, ◌&&◌, not, ℕ, Bool, false, List, [], ◌∷◌, ◌++◌, length, map, String, Option, Some, None, Ok, unwrap_or}
+use Rattle.std.specs.Prelude.{◌≡◌, ◌≢◌, ◌<◌, ◌≤◌, ◌⊎◌, ◌-◌, ◌^◌, ℕ, List, [], ◌∷◌, ◌++◌, length, get_or, map, String, Some, None, Ok, unwrap_or}
 use Rattle.std.specs.String.{string_bytes}
 use Rattle.std.specs.declared.alloc.Global.{Global}
 use Rattle.std.specs.Fmt.{decimal}
 use lib.Chars.{codes}
 use Rattle.hex.specs.Hex.{decode_of}
+use Rattle.tpm_core.specs.declared.algorithm.Banks.{Banks}
+use Rattle.tpm_core.specs.declared.algorithm.Banks.TheVariants.{One, Two}
 use Rattle.script_run.specs.Start.{default_start}
 use Rattle.script_run.specs.declared.action.Action.{Action}
 use Rattle.script_run.specs.declared.action.Action.TheVariants.{Replay, Drive, Suspend, Resume, Check}
@@ -15,41 +17,51 @@ use Rattle.script_run.specs.declared.start.Start.{Start}
 
 -- ---- options
 
--- an option is two words, its name and its value, or one word with `=` between the two
-abbrev pub IsOption : List ℕ → List ℕ → List (List ℕ) → Type 0
-IsOption name value words = (words ≡ name ∷ value ∷ []) ⊎ (words ≡ (name ++ 61 ∷ value) ∷ [])
+-- the words begin with an option of this name, which has no `=`, and of this value: two words, or one with `=` between
+-- name and value
+pub record Splits (name value : List ℕ) (behind words : List (List ℕ)) : Type 0 where
+  pub plain : (i : ℕ) → i < length name → get_or name i 0 ≢ 61
+  pub spelled : (words ≡ name ∷ value ∷ behind) ⊎ (words ≡ (name ++ 61 ∷ value) ∷ behind)
 
 -- a piece has 1 to 4096 bytes
 pub record IsPiece (piece : ℕ) : Type 0 where
   pub least : 1 ≤ piece
   pub most : piece ≤ 4096
 
--- the words of `--piece`, or none; the number is in decimal without a sign or a leading zero
-abbrev pub PieceWords : Option ℕ → List (List ℕ) → Type 0
-PieceWords None words = words ≡ []
-PieceWords (Some piece) words = IsPiece piece × IsOption (codes "--piece") (decimal piece) words
-
 -- 64 hexadecimal digits of either case are a seed, two for each byte, in the order of the bytes
 pub record IsSeed (digits seed : List ℕ) : Type 0 where
   pub count : length digits ≡ 64
   pub bytes : decode_of digits ≡ Ok seed
 
--- the words of `--seed`, or none
-abbrev pub SeedWords : Option (List ℕ) → List (List ℕ) → Type 0
-SeedWords None words = words ≡ []
-SeedWords (Some seed) words = (digits : List ℕ) × IsSeed digits seed × IsOption (codes "--seed") digits words
+-- a number of banks in decimal
+abbrev pub banks_digits : Banks → List ℕ
+banks_digits One = codes "1"
+banks_digits Two = codes "2"
+
+-- one more option of this name and this value, which isn't given yet; the number of `--piece` is in decimal without a sign
+-- or a leading zero
+abbrev pub Adds : Options → List ℕ → List ℕ → Options → Type 0
+Adds old name value new =
+    ((name ≡ codes "--piece") × (old.piece ≡ None) × (piece : ℕ) × (value ≡ decimal piece) × IsPiece piece × (new ≡ record old { piece = Some piece }))
+    ⊎ (((name ≡ codes "--seed") × (old.seed ≡ None) × (seed : List ℕ) × IsSeed value seed × (new ≡ record old { seed = Some seed }))
+    ⊎ ((name ≡ codes "--banks") × (old.banks ≡ None) × (banks : Banks) × (value ≡ banks_digits banks) × (new ≡ record old { banks = Some banks })))
+
+-- no option
+abbrev pub no_options : Options
+no_options = record { piece = None; seed = None; banks = None }
+
+-- the words are options of these names and values, one after the other; each is added to those before it
+abbrev pub AddInOrder : List (List ℕ × List ℕ) → Options → Options → List (List ℕ) → Type 0
+AddInOrder [] given all words = (words ≡ []) × (all ≡ given)
+AddInOrder (option ∷ options) given all words = (behind : List (List ℕ)) × (new : Options) × Splits option.0 option.1 behind words × Adds given option.0 option.1 new × AddInOrder options new all behind
 
 -- the words of options, each at most once, in any order
-pub record AreOptions (given : Options) (words : List (List ℕ)) : Type 0 where
-  pub piece_words : List (List ℕ)
-  pub seed_words : List (List ℕ)
-  pub piece : PieceWords given.piece piece_words
-  pub seed : SeedWords given.seed seed_words
-  pub order : (words ≡ piece_words ++ seed_words) ⊎ (words ≡ seed_words ++ piece_words)
+abbrev pub AreOptions : Options → List (List ℕ) → Type 0
+AreOptions all words = (options : List (List ℕ × List ℕ)) × AddInOrder options no_options all words
 
 -- how a run begins; what isn't given is as without options
 abbrev pub start_by : Options → Start
-start_by given = record { seed = unwrap_or given.seed default_start.seed; piece = unwrap_or given.piece default_start.piece }
+start_by given = record { seed = unwrap_or given.seed default_start.seed; banks = unwrap_or given.banks default_start.banks; piece = unwrap_or given.piece default_start.piece }
 
 -- the options of a run that begins so
 pub record StartWords (start : Start) (words : List (List ℕ)) : Type 0 where
@@ -57,11 +69,12 @@ pub record StartWords (start : Start) (words : List (List ℕ)) : Type 0 where
   pub options : AreOptions given words
   pub same : start ≡ start_by given
 
--- the options of a run that goes on from a saved stream; that has its seed
+-- the options of a run that goes on from a saved stream; seed and banks are those of the stream
 pub record ResumeWords (piece : ℕ) (words : List (List ℕ)) : Type 0 where
   pub given : Options
   pub options : AreOptions given words
   pub no_seed : given.seed ≡ None
+  pub no_banks : given.banks ≡ None
   pub same : piece ≡ (start_by given).piece
 
 -- ---- numbers of bulk

@@ -91,16 +91,16 @@ fn start_of(words: &[String]) -> Option<Start>
     Some(given.start())
 }
 
-// The size of a piece by the options behind a command that takes no seed.
+// The size of a piece by the options behind a command that takes neither seed nor banks.
 fn piece_alone(words: &[String]) -> Option<u32>
     ensures named { IfSome result (λ piece. ResumeWords piece (map string_bytes words.now)) }
     ensures only { (piece : ℕ) → ResumeWords piece (map string_bytes words.now) → result ≡ Some piece }
 {
     let given = Options::parse(words)?;
-    match given.seed {
-        None => Some(given.start().piece),
-        Some(_) => None,
+    if given.seed.is_some() || given.banks.is_some() {
+        return None;
     }
+    Some(given.start().piece)
 }
 
 // The task of the two numbers behind `bulk`.

@@ -4,17 +4,17 @@ ghost use Rattle.bulk_lines.specs.Summaries.{IsSummaryOf, command_count, move_co
 ghost use Rattle.script_run.specs.Bulk.{bulk_summary, summary_of};
 ghost use Rattle.script_run.specs.Driven.{driven};
 ghost use Rattle.script_run.specs.Ends.{BulkEnd};
-ghost use Rattle.script_run.specs.Loop.{HasDriven};
+ghost use Rattle.script_run.specs.Calls.{HasDriven};
 ghost use Rattle.script_run.specs.Output.{seen, Tells};
 ghost use Rattle.script_run.specs.Run.{latest_first};
 ghost use Rattle.script_run.specs.Start.{base_of, default_start};
 
 use crate::drive::respond;
-use crate::output::write_and_end;
 use crate::ran::{End, Ran};
 use crate::start::Start;
 use bulk_lines::{BulkLines, Summary};
 use crb_port::PlainPort;
+use line_loop::write_and_end;
 use std::alloc::{AllocError, Global};
 use vt_base::{Sink, Status};
 use vt_world::Pair;

@@ -1,6 +1,6 @@
 //! The command `drive`: a driver does the command of each line, the guest is moved between them, and the responses are
 //! written.
-ghost use Rattle.std.specs.Prelude.{◌≡◌, ◌≤◌, ℕ, None, IfNone, IfSome, OnOk, OnErr, length, take};
+ghost use Rattle.std.specs.Prelude.{◌≡◌, ◌≤◌, ℕ, None, IfSome, OnOk, OnErr, length, take};
 ghost use Rattle.tpm_frame.specs.Sizes.{IsWellSized};
 ghost use Rattle.vt_script.specs.Drive.{IsDriveLine, drive_of};
 ghost use Rattle.crb_history.specs.Snapshot.{Snapshot};
@@ -10,23 +10,23 @@ ghost use Rattle.vt_world.specs.Pairs.{IsRunning, running_world};
 ghost use Rattle.vt_world.specs.Placement.{Placement, moved};
 ghost use Rattle.vt_world.specs.Movable.{IsMovable};
 ghost use Rattle.script_run.specs.Calls.{Calls, CanRespond, IsAtRest, IsWaiting, Responds};
-ghost use Rattle.script_run.specs.Ends.{HandsOut, HandsPair, AreDriveLines};
-ghost use Rattle.script_run.specs.Loop.{Responded, GoesOn, EndsHere};
+ghost use Rattle.script_run.specs.Ends.{HandsOut, HandsPair, AreDriveLines, IsPair};
+ghost use Rattle.script_run.specs.Causes.{HasCauses};
+ghost use Rattle.script_run.specs.Loop.{Drives};
 ghost use Rattle.script_run.specs.Output.{seen};
 ghost use Rattle.script_run.specs.Placed.{pieces_of_move};
-ghost use Rattle.script_run.specs.Run.{IsShort, Leaves, driven_by};
+ghost use Rattle.script_run.specs.Run.{Leaves, driven_by};
 ghost use Rattle.script_run.specs.Start.{base_of};
 ghost use Rattle.script_run.specs.Words.{IsPiece};
 ghost use Rattle.script_run.specs.declared.start.Start.{Start};
 
-use crate::cursor::ScriptLines;
-use crate::output::{bad_line, flush_if_full, write_and_end};
-use crate::ran::{End, Ran};
+use crate::ran::{End, Ran, status_of};
 use crate::start::Start;
 use crb_driver::Driver;
 use crb_port::PlainPort;
+use line_loop::{Acted, Actor, each_line};
 use std::alloc::{AllocError, Global};
-use vt_base::{BUFFER_LENGTH, Sink, Status};
+use vt_base::{BUFFER_LENGTH, Sink, Source, Status};
 use vt_script::{DriveLine, parse_drive, print_response};
 use vt_world::{Pair, laws};
 
@@ -35,61 +35,44 @@ const POLLS: u32 = 8;
 
 /// Does a script's drive lines on two new hosts: writes the response to each command in hexadecimal, and moves the
 /// guest to the other host where a line asks for it.
-pub fn drive<K: Sink>(alloc: Global, start: Start, script: &[u8], sink: &mut K) -> Ran
+pub fn drive<S: Source, K: Sink>(alloc: Global, start: Start, source: &mut S, sink: &mut K) -> Ran
     requires piece { IsPiece start.piece }
-    requires short { IsShort script.now }
-    ensures writes { Leaves result.status (driven_by start script.now) (seen (K.written sink.old) (K.room sink.old) (K.faults sink.old))
-        (seen (K.written sink.new) (K.room sink.new) (K.faults sink.new)) }
-    ensures hands_out { HandsOut (HandsPair start (AreDriveLines script.now)) result.status result.end }
+    ensures writes { IfSome (S.left source.old) (λ script. Leaves result.status (driven_by start script) (S.left source.new)
+        (seen (K.written sink.old) (K.room sink.old) (K.faults sink.old)) (seen (K.written sink.new) (K.room sink.new) (K.faults sink.new))) }
+    ensures hands_out { IfSome (S.left source.old) (λ script. HandsOut (HandsPair start (AreDriveLines script)) result.status result.end) }
+    ensures of_pair { HandsOut IsPair result.status result.end }
+    ensures causes { HasCauses result.status (S.never_fails source.old) (S.left source.new) (S.faults source.old) (S.faults source.new) (K.faults sink.old) (K.faults sink.new) }
 {
-    let Ok(mut pair) = start.pair(alloc) else {
+    let Ok(pair) = start.pair(alloc) else {
         return Ran {
             status: Status::Memory,
             end: End::Nothing,
         };
     };
-    let mut pending = Vec::new(alloc);
-    let mut lines = ScriptLines::new(script);
-    while let Some(text) = lines.next() {
-        let end = drive_line(alloc, lines.number(), text, &mut pair, &mut pending, sink);
-        if let Some(status) = end {
-            return Ran::on_hosts(status, End::Pair(pair));
-        }
-    }
-    let status = write_and_end(sink, &pending, &[], Status::Ok);
-    Ran::on_hosts(status, End::Pair(pair))
+    let mut driven = DrivenPair { start, pair };
+    let end = each_line(alloc, &mut driven, source, sink);
+    Ran::on_hosts(status_of(end), End::Pair(driven.pair))
 }
 
-// Does a line, and appends its response to the pending bytes. It gives the status of a run that ends with this line.
-fn drive_line<K: Sink>(
-    alloc: Global,
-    number: u64,
-    text: &[u8],
-    pair: &mut Pair<PlainPort>,
-    pending: &mut Vec<u8>,
-    sink: &mut K,
-) -> Option<Status>
-    requires { CanRespond pair.old }
-    ensures goes_on { IfNone result ((start : Start) (p : History) (s : Placement) → IsWaiting start p s pair.old
-        → GoesOn (λ now. Responded start p s text.now pending.old.items now pair.new) pending.new.items (seen (K.written sink.old) (K.room sink.old) (K.faults sink.old))
-        (seen (K.written sink.new) (K.room sink.new) (K.faults sink.new))) }
-    ensures ends { IfSome result (λ status. (start : Start) (p : History) (s : Placement) → IsWaiting start p s pair.old
-        → EndsHere (drive_of text.now ≡ None) (λ now. Responded start p s text.now pending.old.items now pair.new) number pending.old.items status (seen (K.written sink.old) (K.room sink.old) (K.faults sink.old))
-        (seen (K.written sink.new) (K.room sink.new) (K.faults sink.new))) }
-{
-    let Ok(found) = parse_drive(alloc, text) else {
-        return Some(write_and_end(sink, pending, &[], Status::Memory));
-    };
-    let Some(line) = found else {
-        return Some(bad_line(alloc, number, pending, sink));
-    };
-    let Ok(()) = respond(alloc, pair, &line, pending) else {
-        return Some(write_and_end(sink, pending, &[], Status::Memory));
-    };
-    let Ok(()) = flush_if_full(pending, sink) else {
-        return Some(Status::WriteFault);
-    };
-    None
+/// Two hosts on which drive lines are done, and how they began.
+#[derive(Drop)]
+pub struct DrivenPair {
+    pub start: Start,
+    pub pair: Pair<PlainPort>,
+}
+
+impl Actor for DrivenPair {
+    ghost goes = { Drives };
+
+    ghost outside = { λ line. drive_of line ≡ None };
+
+    fn act(&mut self, alloc: Global, line: &[u8], into: &mut Vec<u8>) -> Result<Acted, AllocError> {
+        let Some(line) = parse_drive(alloc, line)? else {
+            return Ok(Acted::NotInGrammar);
+        };
+        respond(alloc, &mut self.pair, &line, into)?;
+        Ok(Acted::Done)
+    }
 }
 
 /// Does the command of a line and appends the text of its response, or moves the guest and appends nothing. An `Err` is

@@ -18,7 +18,6 @@
 
 mod action;
 mod bulk;
-mod cursor;
 mod decimal;
 mod drive;
 mod options;

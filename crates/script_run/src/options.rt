@@ -2,14 +2,14 @@
 ghost use Rattle.std.specs.Prelude.{◌≡◌, ℕ, List, map, Some, None, IfSome, IfNone};
 ghost use Rattle.std.specs.Fmt.{decimal};
 ghost use Rattle.std.specs.String.{string_bytes};
-ghost use Rattle.script_run.specs.Reading.{Adds, Splits};
-ghost use Rattle.script_run.specs.Words.{AreOptions, IsPiece, IsSeed, start_by};
+ghost use Rattle.tpm_core.specs.declared.algorithm.Banks.{Banks};
+ghost use Rattle.script_run.specs.Words.{Adds, AreOptions, IsPiece, IsSeed, Splits, banks_digits, start_by};
 
 use crate::decimal::number;
 use crate::start::Start;
 use ctrl_model::LARGEST_PIECE;
 use hex::FromHex;
-use tpm_core::SEED_SIZE;
+use tpm_core::{Banks, SEED_SIZE};
 
 /// The options that words give.
 #[derive(Clone, Copy, Debug, PartialEq, Eq)]
@@ -18,6 +18,8 @@ pub struct Options {
     pub piece: Option<u32>,
     /// The seed of the TPM.
     pub seed: Option<[u8; SEED_SIZE]>,
+    /// Which banks the TPM has.
+    pub banks: Option<Banks>,
 }
 
 impl Options {
@@ -29,6 +31,7 @@ impl Options {
         let mut given = Options {
             piece: None,
             seed: None,
+            banks: None,
         };
         let mut rest = words;
         while !rest.is_empty() {
@@ -46,6 +49,7 @@ impl Options {
         let usual = Start::without_options();
         Start {
             seed: self.seed.unwrap_or(usual.seed),
+            banks: self.banks.unwrap_or(usual.banks),
             piece: self.piece.unwrap_or(usual.piece),
         }
     }
@@ -58,11 +62,15 @@ impl Options {
         match name {
             "--piece" if self.piece.is_none() => Some(Options {
                 piece: Some(piece_of(value)?),
-                seed: self.seed,
+                ..self
             }),
             "--seed" if self.seed.is_none() => Some(Options {
-                piece: self.piece,
                 seed: Some(seed_of(value)?),
+                ..self
+            }),
+            "--banks" if self.banks.is_none() => Some(Options {
+                banks: Some(banks_of(value)?),
+                ..self
             }),
             _ => None,
         }
@@ -102,4 +110,16 @@ fn seed_of(text: &str) -> Option<[u8; SEED_SIZE]>
     ensures only { (seed : List ℕ) → IsSeed text.now seed → result ≡ Some seed }
 {
     <[u8; SEED_SIZE] as FromHex>::from_hex(text).ok()
+}
+
+// The banks that a word is.
+fn banks_of(text: &str) -> Option<Banks>
+    ensures named { IfSome result (λ banks. text.now ≡ banks_digits banks) }
+    ensures only { (banks : Banks) → text.now ≡ banks_digits banks → result ≡ Some banks }
+{
+    match text {
+        "1" => Some(Banks::One),
+        "2" => Some(Banks::Two),
+        _ => None,
+    }
 }

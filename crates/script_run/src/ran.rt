@@ -1,5 +1,5 @@
 //! What a run answers.
-ghost use Rattle.std.specs.Prelude.{◌≡◌};
+ghost use Rattle.std.specs.Prelude.{◌≡◌, unwrap_or};
 ghost use Rattle.script_run.specs.Ends.{end_by};
 
 use crb_port::PlainPort;
@@ -24,6 +24,16 @@ pub enum End {
     World(World),
     /// The two hosts on which all drive lines were done.
     Pair(Pair<PlainPort>),
+}
+
+/// The status of a run whose loop ended so: `Ok` where all lines were done.
+pub(crate) fn status_of(end: Option<Status>) -> Status
+    ensures { result ≡ unwrap_or end Status.Ok }
+{
+    match end {
+        None => Status::Ok,
+        Some(status) => status,
+    }
 }
 
 impl Ran {

@@ -1,33 +1,33 @@
 //! The command `replay`, and any other that does the lines of a script: a reply to each line.
-ghost use Rattle.std.specs.Prelude.{◌≡◌, ◌≢◌, ◌≤◌, ℕ, [], None, IfNone, IfSome};
+ghost use Rattle.std.specs.Prelude.{◌≡◌, ℕ, None, IfSome};
 ghost use Rattle.crb_history.specs.Snapshot.{Snapshot};
-ghost use Rattle.vt_transcript.specs.Replies.{Transcript};
 ghost use Rattle.vt_script.specs.Script.{event_of};
-ghost use Rattle.two_hosts.specs.Hosts.{first_hosts, hosts_after};
+ghost use Rattle.two_hosts.specs.Hosts.{first_hosts};
 ghost use Rattle.two_seats.specs.Both.{FollowsBoth};
-ghost use Rattle.script_run.specs.Ends.{HandsOut, HandsWorld};
-ghost use Rattle.script_run.specs.Loop.{Replied, GoesOn, EndsHere};
+ghost use Rattle.script_run.specs.Ends.{HandsOut, HandsWorld, IsWorld};
+ghost use Rattle.script_run.specs.Causes.{HasCauses};
+ghost use Rattle.script_run.specs.Loop.{Replies};
 ghost use Rattle.script_run.specs.Output.{seen};
-ghost use Rattle.script_run.specs.Run.{IsShort, Leaves, followed, replayed};
+ghost use Rattle.script_run.specs.Run.{Leaves, followed, replayed};
 ghost use Rattle.script_run.specs.Start.{base_of};
 ghost use Rattle.script_run.specs.Words.{IsPiece};
 
-use crate::cursor::ScriptLines;
-use crate::output::{bad_line, flush_if_full, write_and_end};
-use crate::ran::{End, Ran};
+use crate::ran::{End, Ran, status_of};
 use crate::start::Start;
-use std::alloc::Global;
-use vt_base::{Sink, Status};
+use line_loop::{Acted, Actor, each_line};
+use std::alloc::{AllocError, Global};
+use vt_base::{Sink, Source, Status};
 use vt_script::{parse_line, print_reply};
 use vt_world::World;
 
 /// Does the lines of a script on a new device, and writes a reply to each.
-pub fn replay<K: Sink>(alloc: Global, start: Start, script: &[u8], sink: &mut K) -> Ran
+pub fn replay<S: Source, K: Sink>(alloc: Global, start: Start, source: &mut S, sink: &mut K) -> Ran
     requires piece { IsPiece start.piece }
-    requires short { IsShort script.now }
-    ensures writes { Leaves result.status (replayed start script.now) (seen (K.written sink.old) (K.room sink.old) (K.faults sink.old))
-        (seen (K.written sink.new) (K.room sink.new) (K.faults sink.new)) }
-    ensures hands_out { HandsOut (HandsWorld (base_of start) start.piece script.now) result.status result.end }
+    ensures writes { IfSome (S.left source.old) (λ script. Leaves result.status (replayed start script) (S.left source.new)
+        (seen (K.written sink.old) (K.room sink.old) (K.faults sink.old)) (seen (K.written sink.new) (K.room sink.new) (K.faults sink.new))) }
+    ensures hands_out { IfSome (S.left source.old) (λ script. HandsOut (HandsWorld (base_of start) start.piece script) result.status result.end) }
+    ensures of_world { HandsOut IsWorld result.status result.end }
+    ensures causes { HasCauses result.status (S.never_fails source.old) (S.left source.new) (S.faults source.old) (S.faults source.new) (K.faults sink.old) (K.faults sink.new) }
 {
     let Ok(world) = start.world(alloc) else {
         return Ran {
@@ -35,58 +35,40 @@ pub fn replay<K: Sink>(alloc: Global, start: Start, script: &[u8], sink: &mut K)
             end: End::Nothing,
         };
     };
-    follow(alloc, world, script, sink)
+    follow(alloc, world, source, sink)
 }
 
 /// Does the lines of a script on a world whose host A has the values of some base, and writes a reply to each.
-pub fn follow<K: Sink>(alloc: Global, first: World, script: &[u8], sink: &mut K) -> Ran
-    requires short { IsShort script.now }
-    requires begins { (b : Snapshot) × (piece : ℕ) × FollowsBoth b piece (first_hosts b) first }
-    ensures writes { (b : Snapshot) (piece : ℕ) → FollowsBoth b piece (first_hosts b) first → Leaves result.status (followed b piece script.now) (seen (K.written sink.old) (K.room sink.old) (K.faults sink.old))
-        (seen (K.written sink.new) (K.room sink.new) (K.faults sink.new)) }
-    ensures hands_out { (b : Snapshot) (piece : ℕ) → FollowsBoth b piece (first_hosts b) first → HandsOut (HandsWorld b piece script.now) result.status result.end }
+pub fn follow<S: Source, K: Sink>(alloc: Global, first: World, source: &mut S, sink: &mut K) -> Ran
+    ensures writes { (b : Snapshot) (piece : ℕ) → FollowsBoth b piece (first_hosts b) first → IfSome (S.left source.old) (λ script. Leaves result.status (followed b piece script) (S.left source.new)
+        (seen (K.written sink.old) (K.room sink.old) (K.faults sink.old)) (seen (K.written sink.new) (K.room sink.new) (K.faults sink.new))) }
+    ensures hands_out { (b : Snapshot) (piece : ℕ) → FollowsBoth b piece (first_hosts b) first → IfSome (S.left source.old) (λ script. HandsOut (HandsWorld b piece script) result.status result.end) }
+    ensures of_world { HandsOut IsWorld result.status result.end }
+    ensures causes { HasCauses result.status (S.never_fails source.old) (S.left source.new) (S.faults source.old) (S.faults source.new) (K.faults sink.old) (K.faults sink.new) }
 {
     two_seats::laws::steps_make_runs();
-    let mut world = first;
-    let mut pending = Vec::new(alloc);
-    let mut lines = ScriptLines::new(script);
-    while let Some(text) = lines.next() {
-        let end = follow_line(alloc, lines.number(), text, &mut world, &mut pending, sink);
-        if let Some(status) = end {
-            return Ran::on_hosts(status, End::World(world));
-        }
-    }
-    let status = write_and_end(sink, &pending, &[], Status::Ok);
-    Ran::on_hosts(status, End::World(world))
+    let mut replayer = Replayer { world: first };
+    let end = each_line(alloc, &mut replayer, source, sink);
+    Ran::on_hosts(status_of(end), End::World(replayer.world))
 }
 
-// Does a line, and appends its reply to the pending bytes. It gives the status of a run that ends with this line.
-fn follow_line<K: Sink>(
-    alloc: Global,
-    number: u64,
-    text: &[u8],
-    world: &mut World,
-    pending: &mut Vec<u8>,
-    sink: &mut K,
-) -> Option<Status>
-    ensures goes_on { IfNone result ((b : Snapshot) (piece : ℕ) (t : Transcript) → FollowsBoth b piece (hosts_after b piece t) world.old
-        → GoesOn (λ now. Replied b piece t text.now pending.old.items now world.new) pending.new.items (seen (K.written sink.old) (K.room sink.old) (K.faults sink.old))
-        (seen (K.written sink.new) (K.room sink.new) (K.faults sink.new))) }
-    ensures ends { IfSome result (λ status. (b : Snapshot) (piece : ℕ) (t : Transcript) → FollowsBoth b piece (hosts_after b piece t) world.old
-        → EndsHere (event_of text.now ≡ None) (λ now. Replied b piece t text.now pending.old.items now world.new) number pending.old.items status (seen (K.written sink.old) (K.room sink.old) (K.faults sink.old))
-        (seen (K.written sink.new) (K.room sink.new) (K.faults sink.new))) }
-{
-    let Some(line) = parse_line(text) else {
-        return Some(bad_line(alloc, number, pending, sink));
-    };
-    let Ok(reply) = world.step(alloc, &line) else {
-        return Some(write_and_end(sink, pending, &[], Status::Memory));
-    };
-    let Ok(()) = print_reply(alloc, &reply, pending) else {
-        return Some(write_and_end(sink, pending, &[], Status::Memory));
-    };
-    let Ok(()) = flush_if_full(pending, sink) else {
-        return Some(Status::WriteFault);
-    };
-    None
+/// Does the lines of a script on a world, each with a reply.
+#[derive(Drop)]
+pub struct Replayer {
+    pub world: World,
+}
+
+impl Actor for Replayer {
+    ghost goes = { Replies };
+
+    ghost outside = { λ line. event_of line ≡ None };
+
+    fn act(&mut self, alloc: Global, line: &[u8], into: &mut Vec<u8>) -> Result<Acted, AllocError> {
+        let Some(line) = parse_line(line) else {
+            return Ok(Acted::NotInGrammar);
+        };
+        let reply = self.world.step(alloc, &line)?;
+        print_reply(alloc, &reply, into)?;
+        Ok(Acted::Done)
+    }
 }

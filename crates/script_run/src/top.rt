@@ -1,32 +1,27 @@
 //! The top call.
-ghost use Rattle.std.specs.Prelude.{◌≡◌, ◌≢◌, ◌⊎◌, ◌+◌, ℕ, IsTrue, IfSome, IsSomeAnd};
+ghost use Rattle.std.specs.Prelude.{◌≡◌, ◌≢◌, ◌⊎◌, ℕ, IsTrue, IfSome, IsSomeAnd};
 ghost use Rattle.std.specs.Io.KnownBytes.{IsAtEnd};
 ghost use Rattle.vt_base.specs.Faults.{Rose};
-ghost use Rattle.vt_base.specs.Input.{LosesAtMost};
 ghost use Rattle.script_run.specs.Actions.{reading_of};
 ghost use Rattle.script_run.specs.Bulk.{bulk_summary};
 ghost use Rattle.script_run.specs.Ends.{EndOf, BulkEnd, HasEnd};
 ghost use Rattle.script_run.specs.Output.{seen, Finishes, Tells};
-ghost use Rattle.script_run.specs.Run.{IsShort, Leaves, Writes, IsCramped, IsGood};
+ghost use Rattle.script_run.specs.Causes.{HasCauses};
+ghost use Rattle.script_run.specs.Run.{Leaves, Writes, IsCramped, IsGood};
 ghost use Rattle.script_run.specs.Words.{IsAction, IsBulk, IsUnknown, HasPiece, usage_text};
 
 use crate::action::{Action, Task, task_of};
 use crate::bulk::bulk;
 use crate::drive::drive;
-use crate::output::write_and_end;
 use crate::ran::{End, Ran};
 use crate::replay::replay;
 use crate::saved::{check, resume};
 use crate::suspend::suspend;
+use line_loop::write_and_end;
 use std::alloc::Global;
-use vt_base::{Input, Sink, Source, Status, read_all};
-
-/// The most bytes that an input may have.
-const LONGEST_INPUT: usize = 1_048_576;
+use vt_base::{Sink, Source, Status};
 
 const USAGE: &[u8] = b"usage: crbsim replay, drive, suspend, resume, check or bulk\n";
-
-const LONG_INPUT: &[u8] = b"long input\n";
 
 /// Does what the words say, over this input and this output. `replay` reads a script and writes one reply a line.
 /// `drive` reads lines `cmd HEX`, `move` and `movefail K`, and writes the response to each command in hexadecimal.
@@ -35,9 +30,10 @@ const LONG_INPUT: &[u8] = b"long input\n";
 /// nothing: it does the drive lines that are drawn from the seed N, and writes how many of each kind there were and the
 /// SHA-256 of what `drive` writes for them.
 ///
-/// Options follow the command: of `replay`, `drive` and `suspend` `--piece P`, the most bytes of a piece, and
-/// `--seed HEX`, the seed of the TPM; of `resume` `--piece P`. Each is given at most once, as two words or as one with
-/// `=`, in any order. Without them a piece has at most 4096 bytes, and the seed is zeros.
+/// Options follow the command: of `replay`, `drive` and `suspend` `--piece P`, the most bytes of a piece, `--seed HEX`,
+/// the seed of the TPM, and `--banks B`, its 1 or 2 banks; of `resume` `--piece P`. Each is given at most once, as two
+/// words or as one with `=`, in any order. Without them a piece has at most 4096 bytes, the seed is zeros, and there are two
+/// banks.
 ///
 /// What `replay` and `resume` print is a run of one CRB device over one TPM that never moved, whatever messages between
 /// the two hosts are lost, repeated or reordered. Lines have one run (`two_hosts::laws::runs_are_one`), so the replies
@@ -45,14 +41,14 @@ const LONG_INPUT: &[u8] = b"long input\n";
 ///
 /// Where `replay` or `resume` is `Ok`, the world that did the lines is handed out, and where `drive` or `bulk` is, the
 /// two hosts that did them. The status is `Ok` where the whole input was read and done; `Usage` where the words
-/// aren't in their grammar, and then nothing is read; `Script` at the first line that isn't in the grammar; `Limit` for an
-/// input of more than 1,048,576 bytes; `Refused` where the input isn't, or doesn't begin with, a saved stream; `NotYet`
+/// aren't in their grammar, and then nothing is read; `Script` at the first line that isn't in the grammar; `Limit` where
+/// a line has more than 8256 bytes, or where line 1,000,001 begins; `Refused` where the input isn't, or doesn't begin with, a saved stream; `NotYet`
 /// where a host can't be saved since a command of it is claimed and unfinished; `ReadFault` and `WriteFault` where the
 /// source or the sink failed; `Memory` where memory was lacking.
 pub fn run<S: Source, K: Sink>(alloc: Global, words: &[String], source: &mut S, sink: &mut K) -> Ran
     // Where the bytes of the source and the sink are known: what is written is what the action reads in the input.
     ensures does { (action : Action) → IsAction action words.now
-        → IfSome (S.left source.old) (λ input. Writes result.status (reading_of action input) (K.written sink.old) (K.written sink.new)) }
+        → IfSome (S.left source.old) (λ input. Writes result.status (reading_of action input) (S.left source.new) (K.written sink.old) (K.written sink.new)) }
 
     // `bulk` reads nothing and writes its one line, or nothing for lack of memory. A sink fails only where the line is
     // longer than its promised room.
@@ -80,11 +76,9 @@ pub fn run<S: Source, K: Sink>(alloc: Global, words: &[String], source: &mut S, 
     ensures writes_if_promised { (action : Action) → IsAction action words.now
         → IfSome (S.left source.old) (λ input. result.status ≡ Status.WriteFault → IsCramped (reading_of action input) (K.room sink.old)) }
 
-    // With words that aren't known nothing is read; a run that ends well read its input to the end, and none reads much
-    // past the limit.
+    // With words that aren't known nothing is read; a run that ends well read its input to the end.
     ensures unread { IsUnknown words.now → source.new ≡ source.old }
     ensures read_to_end { (action : Action) → IsAction action words.now → result.status ≡ Status.Ok → IsAtEnd (S.left source.new) }
-    ensures at_most_limit { LosesAtMost (S.left source.old) (S.left source.new) (1048576 + 4096) }
 
     // Over a good input, with no fault of the source or the sink, it does its work or lacks memory.
     ensures complete { (action : Action) → IsAction action words.now → IsSomeAnd (S.left source.old) (λ input. IsGood (reading_of action input))
@@ -101,7 +95,7 @@ pub fn run<S: Source, K: Sink>(alloc: Global, words: &[String], source: &mut S, 
     }
 }
 
-// Reads the input, and does what the action makes of it.
+// Does what the action makes of the input.
 fn run_action<S: Source, K: Sink>(
     alloc: Global,
     action: Action,
@@ -109,52 +103,22 @@ fn run_action<S: Source, K: Sink>(
     sink: &mut K,
 ) -> Ran
     requires { HasPiece action }
-    ensures writes { IfSome (S.left source.old) (λ input. Writes result.status (reading_of action input) (K.written sink.old) (K.written sink.new)) }
-    ensures not_usage { result.status ≢ Status.Usage }
-    ensures read_fault { result.status ≡ Status.ReadFault → Rose (S.faults source.old) (S.faults source.new) }
-    ensures write_fault { result.status ≡ Status.WriteFault → Rose (K.faults sink.old) (K.faults sink.new) }
-    ensures reads_if_promised { IsTrue (S.never_fails source.old) → result.status ≢ Status.ReadFault }
-    ensures writes_if_promised { IfSome (S.left source.old) (λ input. result.status ≡ Status.WriteFault → IsCramped (reading_of action input) (K.room sink.old)) }
-    ensures read_to_end { result.status ≡ Status.Ok → IsAtEnd (S.left source.new) }
-    ensures at_most_limit { LosesAtMost (S.left source.old) (S.left source.new) (1048576 + 4096) }
+    ensures leaves { IfSome (S.left source.old) (λ input. Leaves result.status (reading_of action input) (S.left source.new)
+        (seen (K.written sink.old) (K.room sink.old) (K.faults sink.old)) (seen (K.written sink.new) (K.room sink.new) (K.faults sink.new))) }
     ensures hands_out { IfSome (S.left source.old) (λ input. EndOf action input result.status result.end) }
     ensures hands_out_on_ok { HasEnd action result.status result.end }
-{
-    match read_all(alloc, source, LONGEST_INPUT) {
-        Input::Whole(input) => act_on(alloc, action, &input, sink),
-        Input::TooLong => Ran {
-            status: write_and_end(sink, &[], LONG_INPUT, Status::Limit),
-            end: End::Nothing,
-        },
-        Input::Fault => Ran {
-            status: Status::ReadFault,
-            end: End::Nothing,
-        },
-        Input::Memory => Ran {
-            status: Status::Memory,
-            end: End::Nothing,
-        },
-    }
-}
-
-// Does what the action makes of an input that isn't too long.
-fn act_on<K: Sink>(alloc: Global, action: Action, input: &[u8], sink: &mut K) -> Ran
-    requires piece { HasPiece action }
-    requires short { IsShort input.now }
-    ensures writes { Leaves result.status (reading_of action input.now) (seen (K.written sink.old) (K.room sink.old) (K.faults sink.old))
-        (seen (K.written sink.new) (K.room sink.new) (K.faults sink.new)) }
-    ensures hands_out { EndOf action input.now result.status result.end }
+    ensures causes { HasCauses result.status (S.never_fails source.old) (S.left source.new) (S.faults source.old) (S.faults source.new) (K.faults sink.old) (K.faults sink.new) }
 {
     match action {
-        Action::Replay { start } => replay(alloc, start, input, sink),
-        Action::Drive { start } => drive(alloc, start, input, sink),
+        Action::Replay { start } => replay(alloc, start, source, sink),
+        Action::Drive { start } => drive(alloc, start, source, sink),
         Action::Suspend { start } => Ran {
-            status: suspend(alloc, start, input, sink),
+            status: suspend(alloc, start, source, sink),
             end: End::Nothing,
         },
-        Action::Resume { piece } => resume(alloc, piece, input, sink),
+        Action::Resume { piece } => resume(alloc, piece, source, sink),
         Action::Check => Ran {
-            status: check(alloc, input, sink),
+            status: check(alloc, source, sink),
             end: End::Nothing,
         },
     }

@@ -1,7 +1,7 @@
 //! The parts of a text between separators.
 ghost use Rattle.std.specs.Prelude.{◌≡◌, ◌∷◌, [], ◌<◌, ◌==◌, length, MatchOption};
 ghost use Rattle.std.specs.List.{position};
-ghost use Rattle.vt_script.specs.Script.{parts_of, lines_of};
+ghost use Rattle.vt_script.specs.Script.{parts_of};
 
 /// Stands between two words of a line.
 pub const SPACE: u8 = b' ';
@@ -30,19 +30,5 @@ pub fn first_part(separator: u8, bytes: &[u8]) -> (&[u8], Option<&[u8]>)
             (part, Some(rest))
         }
         None => (bytes, None),
-    }
-}
-
-/// The first line of a script, without the LF that ends it, and what stands after that LF. The last line may be ended
-/// by the end of the script.
-pub fn first_line(script: &[u8]) -> (&[u8], &[u8])
-    requires { 0 < length script.now }
-    ensures lines { lines_of script.now ≡ result.0.now ∷ lines_of result.1.now }
-    ensures shorter { length result.1.now < length script.now }
-{
-    let (line, rest) = first_part(LINE_FEED, script);
-    match rest {
-        Some(rest) => (line, rest),
-        None => (line, &[]),
     }
 }

@@ -2,7 +2,7 @@ use Rattle.std.proofs.Common.{◌≡◌, List, length, refl, ap, arith}
 use Rattle.vt_script.specs.declared.drive.DriveLine.{DriveLine}
 use Rattle.bulk_lines.specs.Generator.{bulk_lines}
 use Rattle.script_run.specs.Ends.{HandsPair}
-use Rattle.script_run.specs.Loop.{HasDriven}
+use Rattle.script_run.specs.Calls.{HasDriven}
 use Rattle.script_run.specs.Run.{latest_first}
 use Rattle.script_run.specs.Start.{default_start}
 use Rattle.script_run.proofs.Bulks.{length-bulk}

@@ -2,7 +2,7 @@ use Rattle.std.proofs.Common.{◌≡◌, ◌++◌, List, length}
 use Rattle.vt_script.specs.declared.drive.DriveLine.{DriveLine}
 use Rattle.bulk_lines.specs.Summaries.{IsSummaryOf, command_count, move_count}
 use Rattle.script_run.specs.Driven.{driven}
-use Rattle.script_run.specs.Loop.{HasDriven}
+use Rattle.script_run.specs.Calls.{HasDriven}
 use Rattle.script_run.specs.Run.{latest_first}
 use Rattle.script_run.specs.Start.{base_of, default_start}
 use Rattle.script_run.proofs.bulk.do_lines.Given as goal

@@ -1,74 +1,40 @@
-use Rattle.std.proofs.Common.{◌∙◌, length, refl, sym, [], ◌∷◌, arith}
-use Rattle.vt_transcript.specs.Replies.{exchange}
-use Rattle.vt_transcript.specs.OneHost.{one_of_transcript}
-use Rattle.script_run.specs.Saved.{suspended}
+use Rattle.std.proofs.Common.{refl, Some}
+use Rattle.script_run.specs.Output.{seen}
 use Rattle.script_run.specs.Start.{base_of}
-use Rattle.script_run.proofs.Endings.{leaves-nothing, leaves-bad, nothing-written}
-use Rattle.script_run.proofs.Suspending.{suspends-start, suspends-more, suspends-gives, suspends-bad, can_save, runs_at_a, suspends-saved}
+use Rattle.script_run.proofs.Endings.{loop-causes}
+use Rattle.script_run.proofs.Suspending.{suspended-start, suspended-stops, suspended-ends, saved-causes, can_save}
 use Rattle.script_run.proofs.suspend.suspend.Goals as goal
 
-pub returns-in_default : goal.returns-in_default
-returns-in_default g c = record { writes = leaves-nothing _ (suspended c.args.start c.args.script.now) }
+pub each_line-end-requires : goal.each_line-end-requires
+each_line-end-requires g c = record { begins = (refl, refl, suspended-start c.args.start c.in-Ok.world c.in-Ok.ensures) }
 
-pub loop-text-init : goal.loop-text-init
-loop-text-init g c = record {
-  done = ([], [], rw c.new-lines.ensures.all (suspends-start c.args.start c.args.script.now c.in-Ok.world c.in-Ok.ensures), c.new-lines.ensures.before);
-  untouched = refl;
+pub returns-in-Some : goal.returns-in-Some
+returns-in-Some g c = record {
+  writes = suspended-stops (record { start = c.args.start; world = c.in-Ok.world }) c.each_line-end.new.actor (g.S.Source.left c.each_line-end.new.source)
+      (seen (g.K.Sink.written c.args.sink.now) (g.K.Sink.room c.args.sink.now) (g.K.Sink.faults c.args.sink.now)) (seen (g.K.Sink.written c.each_line-end.new.sink) (g.K.Sink.room c.each_line-end.new.sink) (g.K.Sink.faults c.each_line-end.new.sink)) (g.S.Source.left c.args.source.now) c.in-Some.status c.in-Some.ensures.not_ok c.in-Some.ensures.stopped;
+  causes = loop-causes (Some c.in-Some.status) (g.S.Source.never_fails c.args.source.now) (g.S.Source.left c.each_line-end.new.source) (g.S.Source.faults c.args.source.now) (g.S.Source.faults c.each_line-end.new.source) (g.K.Sink.faults c.args.sink.now) (g.K.Sink.faults c.each_line-end.new.sink)
+      tt c.in-Some.ensures.read_fault c.in-Some.ensures.write_fault c.in-Some.ensures.reads_if_promised c.in-Some.ensures.not_ok c.in-Some.ensures.not_usage;
 }
 
-pub returns-in_default-plain_line : goal.returns-in_default-plain_line
-returns-in_default-plain_line g c = record {
-  writes =
-      let done = c.loop-text.invariant.done in
-      leaves-bad (suspended c.args.start c.args.script.now) _ _ _ (length done.0) [] [] c.requires.short (suspends-gives c.args.start c.args.script.now c.loop-text.lines.rest done.0 done.1 c.loop-text.world done.2)
-      (nothing-written _ _ (rw c.loop-text.invariant.untouched refl)) _ c.bad_line.result
-      (suspends-bad c.args.start c.args.script.now c.loop-text.lines.rest done.0 done.1 c.loop-text.world c.in-Some.text.now c.next.new.self.rest done.2 c.in-Some.ensures.line (sym c.plain_line.ensures.line ∙ c.in_default-plain_line.is))
-      (omega (arith, done.3, c.in-Some.ensures.number)) c.bad_line.ensures.says;
-}
-
-pub loop-text-preserved : goal.loop-text-preserved
-loop-text-preserved g c =
-    let done = c.loop-text.invariant.done in
-    record {
-      done = (
-        c.in-Some-plain_line.line ∷ done.0,
-        exchange c.in-Some-plain_line.line c.guest.result ∷ done.1,
-        suspends-more c.args.start c.args.script.now c.loop-text.lines.rest done.0 done.1 c.loop-text.world c.guest.new.self c.in-Some.text.now c.next.new.self.rest c.in-Some-plain_line.line c.guest.result done.2
-            c.in-Some.ensures.line (sym c.plain_line.ensures.line ∙ c.in-Some-plain_line.is) (c.guest.ensures.at_a done.2.here (base_of c.args.start) (one_of_transcript (base_of c.args.start) done.1) done.2.follows) c.guest.ensures.others.running,
-        omega (arith, done.3, c.in-Some.ensures.number),
-      );
-      untouched = c.loop-text.invariant.untouched;
-    }
-
-pub loop-text-preserved-in-Some-plain_line : goal.loop-text-preserved-in-Some-plain_line
-loop-text-preserved-in-Some-plain_line g c =
-    let done = c.loop-text.invariant.done in
-    record {
-      done = (
-        c.in-Some-plain_line.line ∷ done.0,
-        exchange c.in-Some-plain_line.line c.guest.result ∷ done.1,
-        suspends-more c.args.start c.args.script.now c.loop-text.lines.rest done.0 done.1 c.loop-text.world c.guest.new.self c.in-Some.text.now c.next.new.self.rest c.in-Some-plain_line.line c.guest.result done.2
-            c.in-Some.ensures.line (sym c.plain_line.ensures.line ∙ c.in-Some-plain_line.is) (c.guest.ensures.at_a done.2.here (base_of c.args.start) (one_of_transcript (base_of c.args.start) done.1) done.2.follows) c.guest.ensures.others.running,
-        omega (arith, done.3, c.in-Some.ensures.number),
-      );
-      untouched = c.loop-text.invariant.untouched;
-    }
-
-pub save-status-requires : goal.save-status-requires
-save-status-requires g c =
-    let done = c.loop-text.invariant.done in
+pub save-requires : goal.save-requires
+save-requires g c =
+    let d = c.in_default-end.ensures.done.goes_here.2 in
     let laws = c.plain_runs_are_one.ensures in
     record {
-      runs = runs_at_a c.loop-text.world done.2.here;
-      can_save = (base_of c.args.start, done.1, can_save c.args.start c.args.script.now c.loop-text.lines.rest done.0 done.1 c.loop-text.world done.2 laws.run laws.unordered laws.working);
+      can_save = (base_of c.args.start, c.args.start.piece, d.hosts, can_save c.args.start c.in_default-end.ensures.done.lines c.each_line-end.new.actor.world d laws.run laws.unordered laws.working);
     }
 
 pub returns : goal.returns
-returns g c = record {
-  writes =
-      let done = c.loop-text.invariant.done in
-      let laws = c.plain_runs_are_one.ensures in
-      let can = can_save c.args.start c.args.script.now c.loop-text.lines.rest done.0 done.1 c.loop-text.world done.2 laws.run laws.unordered laws.working in
-      rw (← c.loop-text.invariant.untouched) (suspends-saved c.args.start c.args.script.now c.loop-text.lines.rest done.0 done.1 c.loop-text.world c.save-status.result _ _ done.2 c.in_default-next.ensures.end
-      (laws.run (base_of c.args.start) done.0 done.1 done.2.plain done.2.same done.2.run) c.requires.short (c.save-status.ensures.writes (base_of c.args.start) done.1 can));
-}
+returns g c =
+    let e = c.in_default-end.ensures.done in
+    let d = e.goes_here.2 in
+    let laws = c.plain_runs_are_one.ensures in
+    let writes = c.save.ensures.writes (base_of c.args.start) c.args.start.piece d.hosts d.both in
+    record {
+      writes = suspended-ends (record { start = c.args.start; world = c.in-Ok.world }) c.each_line-end.new.actor (g.S.Source.left c.each_line-end.new.source)
+          (seen (g.K.Sink.written c.args.sink.now) (g.K.Sink.room c.args.sink.now) (g.K.Sink.faults c.args.sink.now)) (seen (g.K.Sink.written c.each_line-end.new.sink) (g.K.Sink.room c.each_line-end.new.sink) (g.K.Sink.faults c.each_line-end.new.sink)) (g.S.Source.left c.args.source.now) e (seen (g.K.Sink.written c.save.new.sink) (g.K.Sink.room c.save.new.sink) (g.K.Sink.faults c.save.new.sink)) c.save.result
+          (laws.run (base_of c.args.start) d.done d.transcript d.plain d.same d.run) writes;
+      causes = saved-causes (base_of c.args.start) d.hosts.history c.save.result (seen (g.K.Sink.written c.each_line-end.new.sink) (g.K.Sink.room c.each_line-end.new.sink) (g.K.Sink.faults c.each_line-end.new.sink))
+          (seen (g.K.Sink.written c.save.new.sink) (g.K.Sink.room c.save.new.sink) (g.K.Sink.faults c.save.new.sink)) (g.S.Source.never_fails c.args.source.now) (g.S.Source.left c.each_line-end.new.source)
+          (g.S.Source.faults c.args.source.now) (g.S.Source.faults c.each_line-end.new.source) (g.K.Sink.faults c.args.sink.now) c.in_default-end.ensures.read_to_end e.wrote.faults writes;
+    }

@@ -12,6 +12,7 @@ use Rattle.script_run.specs.declared.action.Action.{Action}
 use Rattle.script_run.specs.declared.action.Task.{Task}
 use Rattle.script_run.specs.declared.action.Task.TheVariants.{Read, Bulk}
 use Rattle.script_run.proofs.Completing.{completes}
+use Rattle.script_run.proofs.Endings.{all-writes, all-cramped}
 use Rattle.script_run.proofs.Tasks.{same-action, no-bulk, same-bulk, no-action, has-piece, few-lines}
 use Rattle.script_run.proofs.Words.{none-some}
 use Rattle.script_run.proofs.top.run.Goals as goal
@@ -23,8 +24,8 @@ run_action-requires g c = has-piece c.in-Some-Read.action (map string_bytes c.ar
 
 pub returns-in-Some-Read-clause-does : goal.returns-in-Some-Read-clause-does
 returns-in-Some-Read-clause-does g c = λ action is.
-    subst (λ (x : Action). IfSome (g.S.Source.left c.args.source.now) (λ (input : List ℕ). Writes c.run_action.result.status (reading_of x input) (g.K.Sink.written c.args.sink.now) (g.K.Sink.written c.run_action.new.sink)))
-    (same-action c.in-Some-Read.field-0 c.in-Some-Read.action c.in-Some-Read.field-0-is action (c.in-Some-Read.ensures.only (Read action) is)) c.run_action.ensures.writes
+    subst (λ (x : Action). IfSome (g.S.Source.left c.args.source.now) (λ (input : List ℕ). Writes c.run_action.result.status (reading_of x input) (g.S.Source.left c.run_action.new.source) (g.K.Sink.written c.args.sink.now) (g.K.Sink.written c.run_action.new.sink)))
+    (same-action c.in-Some-Read.field-0 c.in-Some-Read.action c.in-Some-Read.field-0-is action (c.in-Some-Read.ensures.only (Read action) is)) (all-writes c.run_action.result.status (reading_of c.in-Some-Read.action) (g.S.Source.left c.args.source.now) (g.S.Source.left c.run_action.new.source) (seen (g.K.Sink.written c.args.sink.now) (g.K.Sink.room c.args.sink.now) (g.K.Sink.faults c.args.sink.now)) (seen (g.K.Sink.written c.run_action.new.sink) (g.K.Sink.room c.run_action.new.sink) (g.K.Sink.faults c.run_action.new.sink)) c.run_action.ensures.leaves)
 
 pub returns-in-Some-Read-clause-sums_up : goal.returns-in-Some-Read-clause-sums_up
 returns-in-Some-Read-clause-sums_up g c = λ seed count is. absurd (no-bulk c.in-Some-Read.field-0 c.in-Some-Read.action c.in-Some-Read.field-0-is seed count (c.in-Some-Read.ensures.only (Bulk seed count) is))
@@ -48,14 +49,20 @@ returns-in-Some-Read-clause-bulk_hands_out g c = λ seed count is. absurd (no-bu
 pub returns-in-Some-Read-clause-writes_if_promised : goal.returns-in-Some-Read-clause-writes_if_promised
 returns-in-Some-Read-clause-writes_if_promised g c = λ action is.
     subst (λ (x : Action). IfSome (g.S.Source.left c.args.source.now) (λ (input : List ℕ). c.run_action.result.status ≡ WriteFault → IsCramped (reading_of x input) (g.K.Sink.room c.args.sink.now)))
-    (same-action c.in-Some-Read.field-0 c.in-Some-Read.action c.in-Some-Read.field-0-is action (c.in-Some-Read.ensures.only (Read action) is)) c.run_action.ensures.writes_if_promised
+    (same-action c.in-Some-Read.field-0 c.in-Some-Read.action c.in-Some-Read.field-0-is action (c.in-Some-Read.ensures.only (Read action) is)) (all-cramped c.run_action.result.status (reading_of c.in-Some-Read.action) (g.S.Source.left c.args.source.now) (g.S.Source.left c.run_action.new.source) (seen (g.K.Sink.written c.args.sink.now) (g.K.Sink.room c.args.sink.now) (g.K.Sink.faults c.args.sink.now)) (seen (g.K.Sink.written c.run_action.new.sink) (g.K.Sink.room c.run_action.new.sink) (g.K.Sink.faults c.run_action.new.sink)) c.run_action.ensures.leaves)
 
 pub returns-in-Some-Read-clause-complete : goal.returns-in-Some-Read-clause-complete
 returns-in-Some-Read-clause-complete g c = λ action is good read write.
     let same = same-action c.in-Some-Read.field-0 c.in-Some-Read.action c.in-Some-Read.field-0-is action (c.in-Some-Read.ensures.only (Read action) is) in
-    let writes = subst (λ (x : Action). IfSome (g.S.Source.left c.args.source.now) (λ (input : List ℕ). Writes c.run_action.result.status (reading_of x input) (g.K.Sink.written c.args.sink.now) (g.K.Sink.written c.run_action.new.sink))) same c.run_action.ensures.writes in
-    completes (g.S.Source.left c.args.source.now) (reading_of action) c.run_action.result.status (g.K.Sink.written c.args.sink.now) (g.K.Sink.written c.run_action.new.sink) writes good c.run_action.ensures.not_usage
-    (λ fault. read (c.run_action.ensures.read_fault fault)) (λ fault. write (c.run_action.ensures.write_fault fault))
+    let writes = subst (λ (x : Action). IfSome (g.S.Source.left c.args.source.now) (λ (input : List ℕ). Writes c.run_action.result.status (reading_of x input) (g.S.Source.left c.run_action.new.source) (g.K.Sink.written c.args.sink.now) (g.K.Sink.written c.run_action.new.sink))) same (all-writes c.run_action.result.status (reading_of c.in-Some-Read.action) (g.S.Source.left c.args.source.now) (g.S.Source.left c.run_action.new.source) (seen (g.K.Sink.written c.args.sink.now) (g.K.Sink.room c.args.sink.now) (g.K.Sink.faults c.args.sink.now)) (seen (g.K.Sink.written c.run_action.new.sink) (g.K.Sink.room c.run_action.new.sink) (g.K.Sink.faults c.run_action.new.sink)) c.run_action.ensures.leaves) in
+    completes (g.S.Source.left c.args.source.now) (reading_of action) c.run_action.result.status (g.S.Source.left c.run_action.new.source) (g.K.Sink.written c.args.sink.now) (g.K.Sink.written c.run_action.new.sink) writes good c.run_action.ensures.causes.not_usage
+    (λ fault. read (c.run_action.ensures.causes.read_fault fault)) (λ fault. write (c.run_action.ensures.causes.write_fault fault))
+
+pub returns-in-Some-Read-clause-usage : goal.returns-in-Some-Read-clause-usage
+returns-in-Some-Read-clause-usage g c = λ is. absurd (c.run_action.ensures.causes.not_usage is)
+
+pub returns-in-Some-Read-clause-read_to_end : goal.returns-in-Some-Read-clause-read_to_end
+returns-in-Some-Read-clause-read_to_end g c = λ action is ok. c.run_action.ensures.causes.read_to_end ok
 
 -- ---- bulk
 

@@ -1,45 +1,73 @@
-use Rattle.std.proofs.Common.{◌≡◌, List, ℕ}
-use Rattle.vt_base.specs.declared.source.Input.TheVariants.{Whole}
-use Rattle.vt_base.specs.declared.status.Status.TheVariants.{WriteFault, Limit}
+use Rattle.std.proofs.Common.{List, ℕ, refl, sym, subst}
+use Rattle.std.specs.Prelude.{IfSome}
 use Rattle.script_run.specs.Actions.{reading_of}
-use Rattle.script_run.specs.Ends.{EndOf}
+use Rattle.script_run.specs.Ends.{EndOf, HasEnd}
 use Rattle.script_run.specs.Output.{seen}
-use Rattle.script_run.specs.Run.{Writes, IsCramped}
-use Rattle.script_run.proofs.Endings.{leaves-writes, leaves-cramped}
-use Rattle.script_run.proofs.Inputs.{of-left, of-long, long-cramped}
-use Rattle.script_run.proofs.Handing.{end-of-some, end-of-none, end-of-fault, end-of-memory, finishes-early, limit-is}
+use Rattle.script_run.specs.Run.{Leaves}
+use Rattle.script_run.specs.Words.{HasPiece}
+use Rattle.script_run.specs.declared.action.Action.{Action}
+use Rattle.script_run.specs.declared.ran.End.TheVariants.{Nothing}
+use Rattle.script_run.proofs.Endings.{of-any}
 use Rattle.script_run.proofs.top.run_action.Goals as goal
 
-pub returns-in-Whole-clause-writes : goal.returns-in-Whole-clause-writes
-returns-in-Whole-clause-writes g c =
-    let leaves = rw c.deref.ensures.value at c.act_on.ensures.writes in
-    of-left (g.S.Source.left c.args.source.now) _ (Whole c.in-Whole.input) (λ (input : List ℕ). Writes c.act_on.result.status (reading_of c.args.action input) (g.K.Sink.written c.args.sink.now) (g.K.Sink.written c.act_on.new.sink)) c.in-Whole.ensures.input
-    (leaves-writes c.act_on.result.status (reading_of c.args.action c.in-Whole.input.items) (seen (g.K.Sink.written c.args.sink.now) (g.K.Sink.room c.args.sink.now) (g.K.Sink.faults c.args.sink.now)) (seen (g.K.Sink.written c.act_on.new.sink) (g.K.Sink.room c.act_on.new.sink) (g.K.Sink.faults c.act_on.new.sink)) leaves)
+pub returns-in-Replay : goal.returns-in-Replay
+returns-in-Replay g c =
+    let is = sym c.in-Replay.is in
+    record {
+      leaves = subst (λ (x : Action). IfSome (g.S.Source.left c.args.source.now) (λ (input : List ℕ). Leaves c.replay.result.status (reading_of x input) (g.S.Source.left c.replay.new.source) (seen (g.K.Sink.written c.args.sink.now) (g.K.Sink.room c.args.sink.now) (g.K.Sink.faults c.args.sink.now)) (seen (g.K.Sink.written c.replay.new.sink) (g.K.Sink.room c.replay.new.sink) (g.K.Sink.faults c.replay.new.sink)))) is c.replay.ensures.writes;
+      hands_out = subst (λ (x : Action). IfSome (g.S.Source.left c.args.source.now) (λ (input : List ℕ). EndOf x input c.replay.result.status c.replay.result.end)) is c.replay.ensures.hands_out;
+      hands_out_on_ok = subst (λ (x : Action). HasEnd x c.replay.result.status c.replay.result.end) is c.replay.ensures.of_world;
+      causes = c.replay.ensures.causes;
+    }
 
-pub returns-in-Whole-clause-writes_if_promised : goal.returns-in-Whole-clause-writes_if_promised
-returns-in-Whole-clause-writes_if_promised g c =
-    let leaves = rw c.deref.ensures.value at c.act_on.ensures.writes in
-    of-left (g.S.Source.left c.args.source.now) _ (Whole c.in-Whole.input) (λ (input : List ℕ). c.act_on.result.status ≡ WriteFault → IsCramped (reading_of c.args.action input) (g.K.Sink.room c.args.sink.now)) c.in-Whole.ensures.input
-    (leaves-cramped c.act_on.result.status (reading_of c.args.action c.in-Whole.input.items) (seen (g.K.Sink.written c.args.sink.now) (g.K.Sink.room c.args.sink.now) (g.K.Sink.faults c.args.sink.now)) (seen (g.K.Sink.written c.act_on.new.sink) (g.K.Sink.room c.act_on.new.sink) (g.K.Sink.faults c.act_on.new.sink)) leaves)
+pub returns-in-Drive : goal.returns-in-Drive
+returns-in-Drive g c =
+    let is = sym c.in-Drive.is in
+    record {
+      leaves = subst (λ (x : Action). IfSome (g.S.Source.left c.args.source.now) (λ (input : List ℕ). Leaves c.drive.result.status (reading_of x input) (g.S.Source.left c.drive.new.source) (seen (g.K.Sink.written c.args.sink.now) (g.K.Sink.room c.args.sink.now) (g.K.Sink.faults c.args.sink.now)) (seen (g.K.Sink.written c.drive.new.sink) (g.K.Sink.room c.drive.new.sink) (g.K.Sink.faults c.drive.new.sink)))) is c.drive.ensures.writes;
+      hands_out = subst (λ (x : Action). IfSome (g.S.Source.left c.args.source.now) (λ (input : List ℕ). EndOf x input c.drive.result.status c.drive.result.end)) is c.drive.ensures.hands_out;
+      hands_out_on_ok = subst (λ (x : Action). HasEnd x c.drive.result.status c.drive.result.end) is c.drive.ensures.of_pair;
+      causes = c.drive.ensures.causes;
+    }
 
-pub returns-in-TooLong-clause-writes_if_promised : goal.returns-in-TooLong-clause-writes_if_promised
-returns-in-TooLong-clause-writes_if_promised g c =
-    of-long (g.S.Source.left c.args.source.now) _ (λ (input : List ℕ). c.write_and_end.result ≡ WriteFault → IsCramped (reading_of c.args.action input) (g.K.Sink.room c.args.sink.now)) c.in-TooLong.ensures.input
-    (λ input long. long-cramped c.args.action input c.write_and_end.result (seen (g.K.Sink.written c.args.sink.now) (g.K.Sink.room c.args.sink.now) (g.K.Sink.faults c.args.sink.now)) (seen (g.K.Sink.written c.write_and_end.new.sink) (g.K.Sink.room c.write_and_end.new.sink) (g.K.Sink.faults c.write_and_end.new.sink)) long c.write_and_end.ensures.writes)
+pub returns-in-Suspend : goal.returns-in-Suspend
+returns-in-Suspend g c =
+    let is = sym c.in-Suspend.is in
+    record {
+      leaves = subst (λ (x : Action). IfSome (g.S.Source.left c.args.source.now) (λ (input : List ℕ). Leaves c.suspend.result (reading_of x input) (g.S.Source.left c.suspend.new.source) (seen (g.K.Sink.written c.args.sink.now) (g.K.Sink.room c.args.sink.now) (g.K.Sink.faults c.args.sink.now)) (seen (g.K.Sink.written c.suspend.new.sink) (g.K.Sink.room c.suspend.new.sink) (g.K.Sink.faults c.suspend.new.sink)))) is c.suspend.ensures.writes;
+      hands_out = subst (λ (x : Action). IfSome (g.S.Source.left c.args.source.now) (λ (input : List ℕ). EndOf x input c.suspend.result Nothing)) is (of-any (g.S.Source.left c.args.source.now) refl);
+      hands_out_on_ok = subst (λ (x : Action). HasEnd x c.suspend.result Nothing) is refl;
+      causes = c.suspend.ensures.causes;
+    }
 
-pub returns-in-Whole-clause-hands_out : goal.returns-in-Whole-clause-hands_out
-returns-in-Whole-clause-hands_out g c =
-    let hands = rw c.deref.ensures.value at c.act_on.ensures.hands_out in
-    of-left (g.S.Source.left c.args.source.now) _ (Whole c.in-Whole.input) (λ (input : List ℕ). EndOf c.args.action input c.act_on.result.status c.act_on.result.end) c.in-Whole.ensures.input hands
+pub returns-in-Resume : goal.returns-in-Resume
+returns-in-Resume g c =
+    let is = sym c.in-Resume.is in
+    record {
+      leaves = subst (λ (x : Action). IfSome (g.S.Source.left c.args.source.now) (λ (input : List ℕ). Leaves c.resume.result.status (reading_of x input) (g.S.Source.left c.resume.new.source) (seen (g.K.Sink.written c.args.sink.now) (g.K.Sink.room c.args.sink.now) (g.K.Sink.faults c.args.sink.now)) (seen (g.K.Sink.written c.resume.new.sink) (g.K.Sink.room c.resume.new.sink) (g.K.Sink.faults c.resume.new.sink)))) is c.resume.ensures.writes;
+      hands_out = subst (λ (x : Action). IfSome (g.S.Source.left c.args.source.now) (λ (input : List ℕ). EndOf x input c.resume.result.status c.resume.result.end)) is c.resume.ensures.hands_out;
+      hands_out_on_ok = subst (λ (x : Action). HasEnd x c.resume.result.status c.resume.result.end) is c.resume.ensures.of_world;
+      causes = c.resume.ensures.causes;
+    }
 
-pub returns-in-Whole-clause-hands_out_on_ok : goal.returns-in-Whole-clause-hands_out_on_ok
-returns-in-Whole-clause-hands_out_on_ok g c = end-of-some c.args.action _ c.act_on.result.status c.act_on.result.end c.act_on.ensures.hands_out
+pub returns-in-Check : goal.returns-in-Check
+returns-in-Check g c =
+    let is = sym c.in-Check.is in
+    record {
+      leaves = subst (λ (x : Action). IfSome (g.S.Source.left c.args.source.now) (λ (input : List ℕ). Leaves c.check.result (reading_of x input) (g.S.Source.left c.check.new.source) (seen (g.K.Sink.written c.args.sink.now) (g.K.Sink.room c.args.sink.now) (g.K.Sink.faults c.args.sink.now)) (seen (g.K.Sink.written c.check.new.sink) (g.K.Sink.room c.check.new.sink) (g.K.Sink.faults c.check.new.sink)))) is c.check.ensures.writes;
+      hands_out = subst (λ (x : Action). IfSome (g.S.Source.left c.args.source.now) (λ (input : List ℕ). EndOf x input c.check.result Nothing)) is (of-any (g.S.Source.left c.args.source.now) refl);
+      hands_out_on_ok = subst (λ (x : Action). HasEnd x c.check.result Nothing) is refl;
+      causes = c.check.ensures.causes;
+    }
 
-pub returns-in-TooLong-clause-hands_out_on_ok : goal.returns-in-TooLong-clause-hands_out_on_ok
-returns-in-TooLong-clause-hands_out_on_ok g c = end-of-none c.args.action c.write_and_end.result (finishes-early Limit c.write_and_end.result _ _ _ limit-is c.write_and_end.ensures.writes)
+pub replay-requires : goal.replay-requires
+replay-requires g c = record { piece = subst HasPiece c.in-Replay.is c.requires }
 
-pub returns-in-Fault-clause-hands_out_on_ok : goal.returns-in-Fault-clause-hands_out_on_ok
-returns-in-Fault-clause-hands_out_on_ok g c = end-of-fault c.args.action
+pub drive-requires : goal.drive-requires
+drive-requires g c = record { piece = subst HasPiece c.in-Drive.is c.requires }
 
-pub returns-in-Memory-clause-hands_out_on_ok : goal.returns-in-Memory-clause-hands_out_on_ok
-returns-in-Memory-clause-hands_out_on_ok g c = end-of-memory c.args.action
+pub suspend-requires : goal.suspend-requires
+suspend-requires g c = record { piece = subst HasPiece c.in-Suspend.is c.requires }
+
+pub resume-requires : goal.resume-requires
+resume-requires g c = record { piece = subst HasPiece c.in-Resume.is c.requires }

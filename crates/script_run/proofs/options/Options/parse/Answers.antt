@@ -1,4 +1,4 @@
-use Rattle.std.proofs.Common.{map, ap, sym, subst, ◌∙◌, refl, [], Some, None}
+use Rattle.std.proofs.Common.{map, ap, sym, subst, Some}
 use Rattle.std.specs.String.{string_bytes}
 use Rattle.script_run.specs.declared.options.Options.{Options}
 use Rattle.script_run.proofs.Words.{Continues, none-left, some-left, none-some, one-some, ends-with, ends-here, some-first, goes-on, goes-back}

@@ -1,4 +1,4 @@
-use Rattle.std.proofs.Common.{List, length, map}
+use Rattle.std.proofs.Common.{length, map}
 use Rattle.std.specs.String.{string_bytes}
 use Rattle.script_run.specs.declared.options.Options.{Options}
 use Rattle.script_run.specs.Words.{AreOptions}

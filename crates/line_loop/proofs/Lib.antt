@@ -1,0 +1,4 @@
+pub mod Writing
+pub mod Endings
+pub mod Given
+pub mod Loop
