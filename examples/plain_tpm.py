@@ -1,4 +1,4 @@
-"""A plain model of the TPM: five commands and one bank of SHA-256 registers.
+"""A plain model of the TPM: five commands, and one or two banks of registers.
 
 It follows the tables of docs/TPM.md and docs/STATE.md, and shares nothing with the program.
 """
@@ -7,10 +7,11 @@ from struct import pack, unpack
 
 NO_SESSIONS, SESSIONS, OLD_TAG = 0x8001, 0x8002, 0x00C4
 STARTUP, SHUTDOWN, GET_RANDOM, PCR_READ, PCR_EXTEND = 0x144, 0x145, 0x17B, 0x17E, 0x182
-SHA256 = 0x000B
+SHA256, SHA384 = 0x000B, 0x000C
+# How many bytes a digest has by each algorithm, and what makes it.
+ALGORITHMS = {SHA256: (32, hashlib.sha256), SHA384: (48, hashlib.sha384)}
 PASSWORD, NO_REGISTER = 0x40000009, 0x40000007
-COUNT, DIGEST = 24, 32
-ZEROS, ONES = bytes(DIGEST), b"\xff" * DIGEST
+COUNT, KEPT, BLOCK = 24, 16, 32
 BAD_TAG, CANCELED = 0x1E, 0x909
 
 
@@ -19,8 +20,8 @@ def short(code):
     return pack(">HII", OLD_TAG if code == BAD_TAG else NO_SESSIONS, 10, code)
 
 
-def blob(magic, body):
-    return magic + b"\x01" + pack(">I", len(body)) + body
+def blob(magic, body, version=1):
+    return magic + bytes([version]) + pack(">I", len(body)) + body
 
 
 class Refused(Exception):
@@ -46,8 +47,9 @@ class Reader:
 
 
 class Tpm:
-    def __init__(self, seed=bytes(32)):
+    def __init__(self, seed=bytes(32), banks=2):
         self.seed = seed
+        self.banks = [SHA256, SHA384][:banks]
         self.boots = 1
         self.saved = None
         self.forget()
@@ -56,11 +58,15 @@ class Tpm:
         """What a power cycle takes away."""
         self.started = False
         self.draws = self.counter = 0
-        self.registers = [ZEROS] * COUNT
+        self.registers = {a: [self.zeros(a)] * COUNT for a in self.banks}
+
+    @staticmethod
+    def zeros(algorithm):
+        return bytes(ALGORITHMS[algorithm][0])
 
     def copy(self):
-        other = Tpm(self.seed)
-        other.__dict__.update(self.__dict__, registers=list(self.registers))
+        other = Tpm(self.seed, len(self.banks))
+        other.__dict__.update(self.__dict__, registers={a: list(bank) for a, bank in self.registers.items()})
         return other
 
     def power_on(self):
@@ -142,14 +148,15 @@ class Tpm:
             raise Refused(0x1D5)
         entries = []
         for _ in range(count):
-            if reader.number(2) != SHA256:
+            algorithm = reader.number(2)
+            if algorithm not in self.banks:
                 raise Refused(0x1C3)
             if code == PCR_EXTEND:
-                entries.append(reader.take(DIGEST))
+                entries.append((algorithm, reader.take(ALGORITHMS[algorithm][0])))
                 continue
             if reader.number(1) != 3:
                 raise Refused(0x1C4)
-            entries.append(reader.take(3))
+            entries.append((algorithm, reader.take(3)))
         return entries
 
     # What each command does
@@ -158,7 +165,8 @@ class Tpm:
         if code == STARTUP:
             return NO_SESSIONS, self.start(parameters)
         if code == SHUTDOWN:
-            self.saved = (self.counter, self.registers[:16]) if parameters == 1 else None
+            kept = {a: bank[:KEPT] for a, bank in self.registers.items()}
+            self.saved = (self.counter, kept) if parameters == 1 else None
             return NO_SESSIONS, b""
         if code == GET_RANDOM:
             return NO_SESSIONS, self.random(parameters)
@@ -169,8 +177,11 @@ class Tpm:
         return SESSIONS, bytes.fromhex("000000000000010000")
 
     def start(self, kind):
-        self.counter, kept = self.saved if kind == 1 else (0, [ZEROS] * 16)
-        self.registers = list(kept) + [ZEROS] + [ONES] * 6 + [ZEROS]
+        none = {a: [self.zeros(a)] * KEPT for a in self.banks}
+        self.counter, kept = self.saved if kind == 1 else (0, none)
+        for a in self.banks:
+            zeros = self.zeros(a)
+            self.registers[a] = list(kept[a]) + [zeros] + [b"\xff" * len(zeros)] * 6 + [zeros]
         self.started, self.saved = True, None
         return b""
 
@@ -179,24 +190,25 @@ class Tpm:
             return bytes(2)
         block = hashlib.sha256(b"CRBR" + self.seed + pack(">QQ", self.boots, self.draws)).digest()
         self.draws = (self.draws + 1) % 2**64
-        count = min(asked, DIGEST)
+        count = min(asked, BLOCK)
         return pack(">H", count) + block[:count]
 
     def read_registers(self, maps):
         read, digests = [], []
-        for chosen in maps:
+        for algorithm, chosen in maps:
             shown = [0, 0, 0]
             for i in range(COUNT):
                 if chosen[i // 8] >> i % 8 & 1 and len(digests) < 8:
                     shown[i // 8] |= 1 << i % 8
-                    digests.append(self.registers[i])
-            read.append(pack(">HB", SHA256, 3) + bytes(shown))
+                    digests.append(self.registers[algorithm][i])
+            read.append(pack(">HB", algorithm, 3) + bytes(shown))
         head = pack(">II", self.counter, len(maps)) + b"".join(read) + pack(">I", len(digests))
-        return head + b"".join(pack(">H", DIGEST) + digest for digest in digests)
+        return head + b"".join(pack(">H", len(digest)) + digest for digest in digests)
 
     def extend(self, register, digests):
-        for digest in digests:
-            self.registers[register] = hashlib.sha256(self.registers[register] + digest).digest()
+        for algorithm, digest in digests:
+            bank = self.registers[algorithm]
+            bank[register] = ALGORITHMS[algorithm][1](bank[register] + digest).digest()
             self.counter = (self.counter + 1) % 2**32
         if digests:
             self.saved = None
@@ -205,11 +217,15 @@ class Tpm:
         """Its permanent, its volatile and its saved state."""
         volatile, saved = b"\x00", b"\x00"
         if self.started:
-            volatile = b"\x01" + pack(">QI", self.draws, self.counter) + b"".join(self.registers)
+            volatile = b"\x01" + pack(">QI", self.draws, self.counter) + self.joined(self.registers)
         if self.saved is not None:
-            saved = b"\x01" + pack(">I", self.saved[0]) + b"".join(self.saved[1])
+            saved = b"\x01" + pack(">I", self.saved[0]) + self.joined(self.saved[1])
         return [
-            blob(b"CRBP", self.seed + pack(">Q", self.boots)),
-            blob(b"CRBV", volatile),
-            blob(b"CRBZ", saved),
+            blob(b"CRBP", self.seed + pack(">Q", self.boots), len(self.banks)),
+            blob(b"CRBV", volatile, len(self.banks)),
+            blob(b"CRBZ", saved, len(self.banks)),
         ]
+
+    def joined(self, registers):
+        """The registers of each bank, one bank behind the other."""
+        return b"".join(value for algorithm in self.banks for value in registers[algorithm])

@@ -3,7 +3,7 @@ import random
 from struct import pack
 
 from plain_device import BUFFER, PAGE
-from plain_tpm import GET_RANDOM, NO_REGISTER, NO_SESSIONS, PASSWORD, PCR_EXTEND, PCR_READ, SESSIONS, SHA256, SHUTDOWN, STARTUP
+from plain_tpm import GET_RANDOM, NO_REGISTER, NO_SESSIONS, PASSWORD, PCR_EXTEND, PCR_READ, SESSIONS, SHA256, SHA384, SHUTDOWN, STARTUP
 from two_hosts import BAG, TwoHosts
 
 
@@ -12,7 +12,8 @@ def framed(tag, code, body=b""):
 
 
 def digest(draw):
-    return bytes(draw.randrange(256) for _ in range(32))
+    algorithm, size = draw.choice(((SHA256, 32), (SHA256, 32), (SHA384, 48)))
+    return pack(">H", algorithm) + bytes(draw.randrange(256) for _ in range(size))
 
 
 def extend(draw):
@@ -20,13 +21,14 @@ def extend(draw):
     count = draw.choice((0, 1, 1, 1, 2, 3, 17))
     register = draw.choice((*range(24), 24, NO_REGISTER))
     body = pack(">II", register, len(authorisation)) + authorisation + pack(">I", count)
-    return framed(SESSIONS, PCR_EXTEND, body + b"".join(pack(">H", SHA256) + digest(draw) for _ in range(count)))
+    return framed(SESSIONS, PCR_EXTEND, body + b"".join(digest(draw) for _ in range(count)))
 
 
 def read(draw):
     count = draw.choice((0, 1, 1, 2, 17))
     maps = (bytes(draw.choice((0, 1, 255, draw.randrange(256))) for _ in range(3)) for _ in range(count))
-    return framed(NO_SESSIONS, PCR_READ, pack(">I", count) + b"".join(pack(">HB", SHA256, 3) + m for m in maps))
+    entries = (pack(">HB", draw.choice((SHA256, SHA384)), 3) + m for m in maps)
+    return framed(NO_SESSIONS, PCR_READ, pack(">I", count) + b"".join(entries))
 
 
 def command(draw):
