@@ -28,7 +28,7 @@ pub fn lost_stays_lost()
 {}
 
 /// A run to a point where the guest may be suspended, and a run from the values at that point, are one run of one device over
-/// one TPM: what the guest is shown after it is what it would have been shown without it, and nothing is executed twice.
+/// one TPM: the guest reads what it would have read without the suspension, and nothing is executed twice.
 pub fn histories_continue()
     ensures legal { (b : Snapshot) (h more : History) → IsValid b.tpm → Legal b h → MaySuspend b h
         → Legal (snapshot_after b h) more → Legal b (more ++ h) }

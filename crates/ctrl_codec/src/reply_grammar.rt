@@ -1,4 +1,4 @@
-// Judges replies field by field, each by the command that it answers.
+// Parses replies field by field, each by the command that it answers.
 ghost use Rattle.std.specs.Prelude.{◌≡◌};
 ghost use Rattle.vt_base.specs.Parsing.{parsed};
 ghost use Rattle.ctrl_codec.specs.Replies.{replies_to, established, blob};

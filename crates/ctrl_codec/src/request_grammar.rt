@@ -1,4 +1,4 @@
-// Judges control requests field by field.
+// Parses control requests field by field.
 ghost use Rattle.std.specs.Prelude.{◌≡◌};
 ghost use Rattle.vt_base.specs.Parsing.{parsed};
 ghost use Rattle.ctrl_codec.specs.Requests.{requests, body_of};

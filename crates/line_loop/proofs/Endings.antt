@@ -5,7 +5,7 @@ use Rattle.vt_base.specs.declared.status.Status.{Status}
 use Rattle.vt_base.specs.declared.status.Status.TheVariants.{Script, ReadFault, WriteFault, Memory, Limit}
 use lib.Chars.{codes}
 use Rattle.vt_script.specs.Replies.{numbered}
-use Rattle.line_loop.specs.Output.{SinkView, Wrote, Breaks, Finishes, Flushes, TellsBehind, HasWritten}
+use Rattle.line_loop.specs.Output.{SinkView, Wrote, Breaks, Finishes, Flushes, FinishesBehind, HasWritten}
 use Rattle.line_loop.specs.Inputs.{InputReading, PrintsFault, Leaves}
 use Rattle.line_loop.proofs.Writing.{wrote-nothing, wrote-more, breaks-longer, breaks-behind}
 
@@ -49,7 +49,7 @@ module _ (r : InputReading) (left : Option (List ℕ)) (a b c : SinkView) (n : �
   leaves-memory result (inr (is, broken)) = rw is (leaves-broken broken)
 
   -- a line isn't in the grammar
-  pub leaves-bad : (number : ℕ) (result : Status) → r.IsBad n → number ≡ n + 1 → TellsBehind Script pending (numbered (codes "bad line ") number) result b c → Leaves result r left a c
+  pub leaves-bad : (number : ℕ) (result : Status) → r.IsBad n → number ≡ n + 1 → FinishesBehind Script pending (numbered (codes "bad line ") number) result b c → Leaves result r left a c
   leaves-bad number result bad count (inl finishes) = leaves-memory result finishes
   leaves-bad number result bad count (inr (inl (is, more))) =
       rw is (
@@ -72,7 +72,7 @@ module _ (r : InputReading) (left : Option (List ℕ)) (a b c : SinkView) (n : �
       let all = written-prefix a b c pending text output w broken in
       rw is (output ++ text, inr (inr (inl (n, output, text, gives, passes, refl))), all)
 
-  pub leaves-limit : (text : List ℕ) (result : Status) → r.PassesLimit n text → TellsBehind Limit pending text result b c → Leaves result r left a c
+  pub leaves-limit : (text : List ℕ) (result : Status) → r.PassesLimit n text → FinishesBehind Limit pending text result b c → Leaves result r left a c
   leaves-limit text result passes (inl finishes) = leaves-memory result finishes
   leaves-limit text result passes (inr finishes) = leaves-passed text result passes finishes
 

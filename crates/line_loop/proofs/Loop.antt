@@ -11,7 +11,7 @@ use Rattle.vt_script.specs.Replies.{numbered}
 use Rattle.vt_script.specs.Reading.{has_line, SaysOf, CountsLine, CountsFault}
 use Rattle.vt_script.specs.declared.line_reader.Next.{Next}
 use Rattle.vt_script.specs.declared.line_reader.Next.TheVariants as next
-use Rattle.line_loop.specs.Output.{SinkView, Wrote, Breaks, Finishes, Flushes, TellsBehind, HasWritten}
+use Rattle.line_loop.specs.Output.{SinkView, Wrote, Breaks, Finishes, Flushes, FinishesBehind, HasWritten}
 use Rattle.line_loop.specs.Inputs.{Leaves}
 use Rattle.line_loop.specs.Actors.{Course, MayAct, GivesBy, done_by, HasDone, HasEnded, GoesOn, EndsHere, EndsAt}
 use Rattle.line_loop.proofs.Writing.{wrote-more}
@@ -158,7 +158,7 @@ module _ {X : Type 0} (goes : Course X) (outside : List ℕ → Type 0) (first :
   }
 
   at-long : (now : X) (given long : ℕ) (input rest left : Option (List ℕ)) (line : List ℕ) (after : Option (List ℕ)) (a b c : SinkView) (pending : List ℕ) (status : Status) → HasDone goes first now given input rest a b pending
-      → SaysOf (next.TooLong long) given rest line after → TellsBehind Limit pending (numbered (codes "long line ") long) status b c → IfSome input (λ bytes. Leaves status (done_by goes outside first bytes) left a c)
+      → SaysOf (next.TooLong long) given rest line after → FinishesBehind Limit pending (numbered (codes "long line ") long) status b c → IfSome input (λ bytes. Leaves status (done_by goes outside first bytes) left a c)
   at-long now given long None rest left line after a b c pending status d says tells = tt
   at-long now given long (Some input) rest left line after a b c pending status d says tells =
       leaves-limit (done_by goes outside first input) left a b c (length d.lines) pending d.output (gives-so-far now given input rest a b pending d) d.written (numbered (codes "long line ") long) status

@@ -9,7 +9,7 @@ use Rattle.vt_script.specs.declared.line_reader.Next.{Next}
 use Rattle.vt_script.specs.declared.line_reader.Next.TheVariants as next
 use Rattle.line_loop.specs.declared.actor.Acted.{Acted}
 use Rattle.line_loop.specs.declared.actor.Acted.TheVariants.{Done, NotInGrammar}
-use Rattle.line_loop.specs.Output.{SinkView, Wrote, Breaks, Finishes, Flushes, TellsBehind, HasWritten}
+use Rattle.line_loop.specs.Output.{SinkView, Wrote, Breaks, Finishes, Flushes, FinishesBehind, HasWritten}
 use Rattle.line_loop.specs.Inputs.{InputReading, after_lines, AreShort, IsWithinLimits, IsLine, PassesLimitAt, HasRead}
 
 -- what lines do: the actor before the first of them, the lines, what is written for them, and the actor after the last
@@ -88,7 +88,7 @@ GoesOn goes outside line old new before after sink_old sink_new = (now : List �
 -- the run ends here: at a line that isn't in the grammar, for lack of memory, or since what is pending isn't written
 abbrev pub EndsHere : {X : Type 0} → Course X → (List ℕ → Type 0) → List ℕ → X → X → ℕ → List ℕ → Status → SinkView → SinkView → Type 0
 EndsHere goes outside line old new number pending status sink_old sink_new =
-    (outside line × TellsBehind Script pending (numbered (codes "bad line ") number) status sink_old sink_new)
+    (outside line × FinishesBehind Script pending (numbered (codes "bad line ") number) status sink_old sink_new)
     ⊎ (Finishes Memory (pending ++ []) status sink_old sink_new
     ⊎ ((status ≡ WriteFault) × (now : List ℕ) × Acts goes outside Done line old new pending now × Breaks sink_old sink_new now))
 
@@ -96,6 +96,6 @@ EndsHere goes outside line old new number pending status sink_old sink_new =
 abbrev pub EndsAt : Next → List ℕ → Option Status → SinkView → SinkView → Type 0
 EndsAt next.Line pending result old new = ⊥
 EndsAt next.End pending result old new = ((result ≡ None) × Wrote old new pending) ⊎ ((result ≡ Some WriteFault) × Breaks old new pending)
-EndsAt (next.TooLong number) pending result old new = IsSomeAnd result (λ status. TellsBehind Limit pending (numbered (codes "long line ") number) status old new)
+EndsAt (next.TooLong number) pending result old new = IsSomeAnd result (λ status. FinishesBehind Limit pending (numbered (codes "long line ") number) status old new)
 EndsAt next.TooMany pending result old new = IsSomeAnd result (λ status. Finishes Limit (pending ++ (codes "too many lines" ++ 10 ∷ [])) status old new)
 EndsAt next.ReadFault pending result old new = IsSomeAnd result (λ status. Finishes ReadFault (pending ++ []) status old new)

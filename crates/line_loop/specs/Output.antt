@@ -36,12 +36,12 @@ abbrev pub Flushes : SinkView → SinkView → List ℕ → List ℕ → Type 0
 Flushes old new pending after = (written : List ℕ) × Wrote old new written × (written ++ after ≡ pending)
 
 -- a last text alone is written, or for lack of memory nothing
-abbrev pub Tells : Status → List ℕ → Status → SinkView → SinkView → Type 0
-Tells status text result old new = ((result ≡ Memory) × (new ≡ old)) ⊎ Finishes status text result old new
+abbrev pub FinishesAlone : Status → List ℕ → Status → SinkView → SinkView → Type 0
+FinishesAlone status text result old new = ((result ≡ Memory) × (new ≡ old)) ⊎ Finishes status text result old new
 
 -- the pending bytes are written with a last text, or for lack of memory without it
-abbrev pub TellsBehind : Status → List ℕ → List ℕ → Status → SinkView → SinkView → Type 0
-TellsBehind status pending text result old new = Finishes Memory (pending ++ []) result old new ⊎ Finishes status (pending ++ text) result old new
+abbrev pub FinishesBehind : Status → List ℕ → List ℕ → Status → SinkView → SinkView → Type 0
+FinishesBehind status pending text result old new = Finishes Memory (pending ++ []) result old new ⊎ Finishes status (pending ++ text) result old new
 
 -- the output so far is written, but for what is pending
 pub record HasWritten (old now : SinkView) (pending output : List ℕ) : Type 0 where

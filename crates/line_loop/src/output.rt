@@ -1,7 +1,7 @@
 //! What is written: gathered output, and the texts that end it.
 ghost use Rattle.std.specs.Prelude.{◌≡◌, ◌≢◌, ◌<◌, ◌++◌, ◌∷◌, [], OnOk, OnErr, length, codes, false};
 ghost use Rattle.vt_script.specs.Replies.{numbered};
-ghost use Rattle.line_loop.specs.Output.{seen, Breaks, Finishes, Flushes, TellsBehind};
+ghost use Rattle.line_loop.specs.Output.{seen, Breaks, Finishes, Flushes, FinishesBehind};
 
 use std::alloc::Global;
 use vt_base::{Failed, Sink, Status, write_all};
@@ -61,7 +61,7 @@ pub fn flush_if_full<K: Sink>(pending: &mut Vec<u8>, sink: &mut K) -> Result<(),
 
 /// Writes the pending bytes, and the number of a line that isn't in the grammar.
 pub fn bad_line<K: Sink>(alloc: Global, number: u32, pending: &[u8], sink: &mut K) -> Status
-    ensures says { TellsBehind Status.Script pending.now (numbered (codes "bad line ") number) result (seen (K.written sink.old) (K.room sink.old) (K.faults sink.old))
+    ensures says { FinishesBehind Status.Script pending.now (numbered (codes "bad line ") number) result (seen (K.written sink.old) (K.room sink.old) (K.faults sink.old))
         (seen (K.written sink.new) (K.room sink.new) (K.faults sink.new)) }
 {
     match format!(in alloc; "bad line {number}\n") {
@@ -72,7 +72,7 @@ pub fn bad_line<K: Sink>(alloc: Global, number: u32, pending: &[u8], sink: &mut 
 
 /// Writes the pending bytes, and the number of a line that has too many bytes.
 pub fn long_line<K: Sink>(alloc: Global, number: u32, pending: &[u8], sink: &mut K) -> Status
-    ensures says { TellsBehind Status.Limit pending.now (numbered (codes "long line ") number) result (seen (K.written sink.old) (K.room sink.old) (K.faults sink.old))
+    ensures says { FinishesBehind Status.Limit pending.now (numbered (codes "long line ") number) result (seen (K.written sink.old) (K.room sink.old) (K.faults sink.old))
         (seen (K.written sink.new) (K.room sink.new) (K.faults sink.new)) }
 {
     match format!(in alloc; "long line {number}\n") {

@@ -18,8 +18,8 @@ pub fn messages_are_prefix_free()
         → a ++ x ≡ b ++ y → ⊥ }
 {}
 
-/// However a stream is cut into pieces, it is these messages and no others, up to a rest that is refused for the same
-/// cause, or in which nothing is decided.
+/// Chunking doesn't matter: a stream has one list of messages. Its rest is refused for one cause, or nothing is decided in
+/// it.
 pub fn streams_are_read_once()
     // What was read so far grows by each message that becomes whole.
     ensures grows { (sent : List Message) (stream rest piece prefix back : List ℕ) (m : Message) → Carries sent stream rest

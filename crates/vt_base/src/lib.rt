@@ -1,4 +1,4 @@
-//! The ground of the virtual TPM: what its device, its emulator and its programs share.
+//! The base of the virtual TPM: what its device, its emulator and its programs share.
 //!
 //! - A program reads its input by [`read_all`] from a [`Source`], writes by [`write_all`] to a [`Sink`], and ends with
 //!   a [`Status`]. Over the real thing these are [`StdSource`] and [`StdSink`]; in a test they are [`MemSource`] and
@@ -37,6 +37,6 @@ pub use memory::{MemSink, MemSource};
 pub use refusing::{Parsed, behind_magic, refused};
 pub use sink::{Sink, write_all};
 pub use source::{Input, Source, read_all};
-pub use standard::{StdSink, StdSource};
+pub use standard::{Adapter, StdSink, StdSource};
 pub use status::Status;
 pub use types::{Chan, Failed, HostName, Kind, Malformed, Reason, Why};

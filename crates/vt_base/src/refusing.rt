@@ -1,4 +1,4 @@
-// Judges of formats whose bytes may be refused.
+// Grammars of formats whose bytes may be refused.
 ghost use Rattle.std.specs.Prelude.{◌≡◌, Ok, Err, IfOk, IfErr};
 ghost use Rattle.vt_base.specs.Magics.{magic_at};
 ghost use Rattle.vt_base.specs.Refusing.{malformed};

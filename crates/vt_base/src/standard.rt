@@ -1,4 +1,4 @@
-// Sources and sinks over readers and writers of std. What is known of them is what is known of the reader or the
+// A source and a sink over readers and writers of std. What is known of them is what is known of the reader or the
 // writer.
 ghost use Rattle.std.specs.Prelude.{◌≡◌, false};
 
@@ -6,31 +6,37 @@ use crate::{Failed, Sink, Source};
 use std::io::{Read, Write};
 use std::marker::Model;
 
-/// A source over any reader of std, with a count of its faults, which stays at its last value.
+/// A reader or a writer of std with a count of its faults, which stays at its last value.
 #[derive(Drop)]
-pub struct StdSource<R> {
-    inner: R,
+pub struct Adapter<T> {
+    inner: T,
     faults: u64,
 }
 
-impl<R> Model for StdSource<R> {
+/// A source over any reader of std.
+pub type StdSource<R> = Adapter<R>;
+
+/// A sink over any writer of std.
+pub type StdSink<W> = Adapter<W>;
+
+impl<T> Model for Adapter<T> {
     ghost use Rattle.vt_base.specs.Standard.{Adapted};
 
-    ghost Value = { Adapted R };
+    ghost Value = { Adapted T };
 
     ghost view = { λ s. record { inner = s.inner; faults = s.faults } };
 }
 
-impl<R> StdSource<R> {
-    /// A source over this reader, with no fault yet.
-    pub fn new(inner: R) -> Self
+impl<T> Adapter<T> {
+    /// Over this reader or writer, with no fault yet.
+    pub fn new(inner: T) -> Self
         ensures start { result ≡ record { inner = inner; faults = 0 } }
     {
-        StdSource { inner, faults: 0 }
+        Adapter { inner, faults: 0 }
     }
 }
 
-impl<R: Read> Source for StdSource<R> {
+impl<R: Read> Source for Adapter<R> {
     ghost left = { λ s. R.remaining s.inner };
 
     ghost faults = { λ s. s.faults };
@@ -48,31 +54,7 @@ impl<R: Read> Source for StdSource<R> {
     }
 }
 
-/// A sink over any writer of std, with a count of its faults, which stays at its last value.
-#[derive(Drop)]
-pub struct StdSink<W> {
-    inner: W,
-    faults: u64,
-}
-
-impl<W> Model for StdSink<W> {
-    ghost use Rattle.vt_base.specs.Standard.{Adapted};
-
-    ghost Value = { Adapted W };
-
-    ghost view = { λ s. record { inner = s.inner; faults = s.faults } };
-}
-
-impl<W> StdSink<W> {
-    /// A sink over this writer, with no fault yet.
-    pub fn new(inner: W) -> Self
-        ensures start { result ≡ record { inner = inner; faults = 0 } }
-    {
-        StdSink { inner, faults: 0 }
-    }
-}
-
-impl<W: Write> Sink for StdSink<W> {
+impl<W: Write> Sink for Adapter<W> {
     ghost written = { λ s. W.contents s.inner };
 
     ghost faults = { λ s. s.faults };
