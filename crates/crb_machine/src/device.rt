@@ -1,5 +1,5 @@
 //! The device.
-ghost use Rattle.std.specs.Prelude.{◌≡◌, ◌≢◌, ◌^◌, ◌<◌, ◌≤◌, [], length, true, false, Some, None, Ok, IfOk, IfErr, IfSome, OnOk, OnErr, IsSome, IsSomeAnd, IsNone};
+ghost use Rattle.std.specs.Prelude.{◌≡◌, ◌≢◌, ◌^◌, ◌<◌, ◌≤◌, [], length, true, false, Some, None, Ok, IfOk, IfErr, IfSome, OnOk, OnErr, IsSome, IsSomeAnd, IsNone, is_some};
 ghost use Rattle.crb_regs.specs.LittleEndian.{little_endian_at};
 ghost use Rattle.vt_base.specs.Buffer.{zeros, followed_by_zeros};
 ghost use Rattle.crb_regs.specs.Registers.{is_lost, reset_regs};
@@ -14,8 +14,8 @@ use crb_port::{Answer, Job, Port, PortModel, WorkPort};
 use crb_regs::{Access, Phase, Regs};
 use std::alloc::{AllocError, Global};
 use std::error::Error;
-use std::fmt;
 use std::marker::Model;
+use std::{fmt, mem};
 use vt_base::Buf;
 
 /// The job of this number is claimed, so that its buffer can't come back yet.
@@ -210,6 +210,34 @@ impl<P: Port> Device<P> {
         self.parts.go_on();
     }
 
+    /// The device's end of the port as it is. The device's own values are let go.
+    pub fn into_port(self) -> P
+        ensures port { result ≡ self.port }
+
+        // What the type makes sure of: a job or an answer is under way exactly where the buffer isn't in the device.
+        ensures free { (P.port_view result).is_free ≡ is_some self.own_buffer }
+        ensures claimed_number { HasClaimedNumber P.port_view self }
+    {
+        let Device { parts } = self;
+        parts.into_port()
+    }
+
+    /// The device goes on over another port, and the old one is given. Both have to be free, so no job is under way.
+    pub fn change_port(&mut self, port: P) -> P
+        requires free { (P.port_view self.old.port).is_free ≡ true }
+        requires given_free { (P.port_view port).is_free ≡ true }
+
+        ensures old { result ≡ self.old.port }
+        ensures changed { self.new ≡ record self.old { port = port } }
+        ensures consistent { IsConsistentDevice P.port_view self.new }
+        ensures claimed_number { HasClaimedNumber P.port_view self.new }
+
+        // Over two ports whose states are known.
+        ensures exact { IfSome (state_of P.port_view self.old) (λ d. IfSome (P.port_view port).state (λ _. state_of P.port_view self.new ≡ Some d)) }
+    {
+        mem::replace(&mut self.parts.port, port)
+    }
+
     /// Whether the guest is stopped.
     pub fn is_held(&self) -> bool
         ensures value { result ≡ self.now.held }
@@ -244,7 +272,7 @@ impl<P: Port> Device<P> {
         requires held { self.old.held ≡ true }
         requires working { state.now.phase ≢ Phase.Lost }
         requires size { length state.now.content ≤ 3968 }
-        requires idle { state.now.phase ≡ Phase.Idle → state.now.content ≡ [] }
+        requires idle { state.now.phase ≡ Phase.Idle → followed_by_zeros state.now.content ≡ zeros 3968 }
         requires waits { state.now.cancelled ≡ true → state.now.phase ≡ Phase.Execution }
 
         ensures held { self.new.held ≡ true }

@@ -1,5 +1,7 @@
 //! Laws of the values of a device.
 ghost use Rattle.std.specs.Prelude.{◌≡◌, true, false, Ok, Err, Some, IfSome};
+ghost use Rattle.vt_base.specs.Buffer.{zeros, followed_by_zeros};
+ghost use Rattle.crb_regs.specs.declared.phase.Phase.TheVariants.{Idle};
 ghost use Rattle.crb_machine.specs.State.{DeviceState};
 ghost use Rattle.crb_machine.specs.Values.{DeviceValues, AreValid, IsUnclaimed, values_at, device_of};
 ghost use Rattle.crb_machine.specs.Steps.{collected};
@@ -14,6 +16,13 @@ use crb_port::Port;
 pub fn held_devices_go_on()
     ensures device { (d : DeviceState) → IsUnclaimed d → device_of (values_at d) ≡ d }
     ensures values { (v : DeviceValues) → AreValid v → values_at (device_of v) ≡ v }
+{}
+
+/// What `state` gives of a device that isn't lost, `set_state` takes: no byte follows a whole buffer.
+#[tactic(auto, using(crate::proofs::Contents::content_is_whole, crate::proofs::Contents::idle_is_zeros))]
+pub fn given_values_can_be_taken()
+    ensures same { (v : DeviceValues) → AreValid v → followed_by_zeros v.content ≡ v.content }
+    ensures idle { (v : DeviceValues) → AreValid v → v.phase ≡ Idle → followed_by_zeros v.content ≡ zeros 3968 }
 {}
 
 /// A device over a port whose state is known: what a stop leaves of it, and how it goes on behind one.

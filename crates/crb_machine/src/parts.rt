@@ -11,12 +11,11 @@ ghost use Rattle.crb_machine.specs.Over.{IsConsistentDevice, CollectsAnswer, Act
 use crate::bytes::overwrite;
 use crate::phases::next_phase;
 use crb_port::{Answer, Job, Outcome, Port};
-use crb_regs::{Access, DATA_BUFFER, Effect, Phase, Regs, decode};
+use crb_regs::{Access, DATA_BUFFER, Effect, Phase, REGISTER_SIZE, Regs, decode};
 use vt_base::Buf;
 
 /// What a device over a port is made of: the registers, the number of the last job, the buffer where it is in the
-/// device, whether the device is held, whether the job of a held device is cancelled that waits until it goes on, and
-/// the port.
+/// device, whether the device is held, whether the waiting job of a held device is cancelled, and the port.
 #[derive(Debug, Drop)]
 pub struct DeviceParts<P> {
     pub regs: Regs,
@@ -38,6 +37,19 @@ fn phase_at_end(outcome: Outcome) -> Phase
 }
 
 impl<P: Port> DeviceParts<P> {
+    /// The port alone.
+    pub fn into_port(self) -> P
+        ensures { result ≡ self.port }
+    {
+        let DeviceParts {
+            own_buffer,
+            port,
+            ..
+        } = self;
+        drop(own_buffer);
+        port
+    }
+
     /// Takes an answer back, which ends the execution.
     pub fn take_answer(&mut self, answer: Answer)
         ensures { model_of self.new ≡ with_answer answer (model_of self.old) self.old.port }
@@ -82,8 +94,8 @@ impl<P: Port> DeviceParts<P> {
         }
     }
 
-    /// The little-endian number of so many bytes.
-    pub fn value_at(&self, offset: u32, size: u8) -> u64
+    // The little-endian number of so many bytes, one byte at a time.
+    fn value_by_bytes(&self, offset: u32, size: u8) -> u64
         requires size { size ≤ 8 }
         requires place { offset + size ≤ 0x1000 }
         requires consistent { IsConsistentDevice P.port_view (model_of self.now) }
@@ -93,8 +105,22 @@ impl<P: Port> DeviceParts<P> {
         if size == 0 {
             return 0;
         }
-        let rest = self.value_at(offset + 1, size - 1);
+        let rest = self.value_by_bytes(offset + 1, size - 1);
         u64::from(self.byte(offset)) + 256 * rest
+    }
+
+    /// The little-endian number of so many bytes. A register is read at once.
+    pub fn value_at(&self, offset: u32, size: u8) -> u64
+        requires size { size ≤ 8 }
+        requires place { offset + size ≤ 0x1000 }
+        requires consistent { IsConsistentDevice P.port_view (model_of self.now) }
+        ensures value { result ≡ little_endian_at (own_byte (model_of self.now)) offset size }
+        ensures below { result < 256 ^ size }
+    {
+        if size == REGISTER_SIZE && offset < DATA_BUFFER && offset % u32::from(REGISTER_SIZE) == 0 {
+            return u64::from(self.regs.word(offset));
+        }
+        self.value_by_bytes(offset, size)
     }
 
     // What an accepted write of this effect does.

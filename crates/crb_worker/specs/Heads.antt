@@ -6,11 +6,11 @@ use Rattle.std.specs.Int.{w16}
 use Rattle.tpm_frame.specs.Frame.{short, is_response_tag}
 use Rattle.vt_base.specs.Numbers.{big_endian_at}
 use Rattle.tpm_frame.specs.Sizes.{named_size}
-use Rattle.crb_worker.specs.Numbers.{header_size, largest_response, canceled}
+use Rattle.tpm_frame.specs.Numbers.{header_size, largest_frame, rc_canceled}
 
 -- a response can have so many bytes
 abbrev pub is_response_size : ℕ → Bool
-is_response_size size = nat_le header_size size && nat_le size largest_response
+is_response_size size = nat_le header_size size && nat_le size largest_frame
 
 -- these bytes are the header of a response
 abbrev pub is_head : List ℕ → Bool
@@ -18,4 +18,4 @@ is_head head = is_response_tag (big_endian_at w16 0 head) && is_response_size (n
 
 -- the response is that to a command that was cancelled
 abbrev pub is_cancelled : List ℕ → Bool
-is_cancelled response = bytes_eq response (short canceled)
+is_cancelled response = bytes_eq response (short rc_canceled)

@@ -2,7 +2,7 @@
 use Rattle.std.specs.Prelude.{◌≡◌, ℕ, Bool, true, false, not, nat_lt, Option, Some, None}
 use Rattle.crb_port.specs.Views.{PortView}
 use Rattle.tpm_frame.specs.Sizes.{named_size}
-use Rattle.crb_worker.specs.Numbers.{header_size}
+use Rattle.tpm_frame.specs.Numbers.{header_size}
 use Rattle.crb_worker.specs.Heads.{is_head}
 use Rattle.crb_worker.specs.declared.progress.Progress.{Progress}
 use Rattle.crb_worker.specs.declared.progress.Progress.TheVariants.{Free, Claimed, Sent, HeaderReceived}

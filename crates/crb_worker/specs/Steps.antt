@@ -15,7 +15,7 @@ use Rattle.crb_worker.specs.declared.progress.Progress.{Progress}
 use Rattle.crb_worker.specs.declared.progress.Progress.TheVariants as progress
 use Rattle.crb_worker.specs.declared.progress.Step.{Step}
 use Rattle.crb_worker.specs.declared.progress.Step.TheVariants.{Idle, Claim, Sent, Exec, Done, Cancelled, Lost}
-use Rattle.crb_worker.specs.Numbers.{header_size, canceled}
+use Rattle.tpm_frame.specs.Numbers.{header_size, rc_canceled}
 use Rattle.crb_worker.specs.Heads.{is_head, is_cancelled}
 use Rattle.crb_worker.specs.Wires.{WorkerWires, SendsCommand, Receives, AreNext}
 
@@ -43,7 +43,7 @@ WithoutJob k _ next l = ⊥
 abbrev pub WithClaimed : {Schedule : Type 0} → Job → PortView → WorkerWires Schedule → Step → Progress → PortView → WorkerWires Schedule → Type 0
 WithClaimed job k w (Cancelled number) next l v =
     (job.cancelled ≡ true) × (number ≡ job.number) × (next ≡ progress.Free)
-    × Posts k (answered job outcome.Cancelled (short canceled)) l × (v ≡ w)
+    × Posts k (answered job outcome.Cancelled (short rc_canceled)) l × (v ≡ w)
 WithClaimed job k w (Sent number) next l v =
     (job.cancelled ≡ false) × (number ≡ job.number) × (next ≡ progress.Sent job)
     × (l ≡ k) × SendsCommand true (first_frame job.buf) w v

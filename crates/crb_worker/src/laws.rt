@@ -21,8 +21,8 @@ pub fn a_step_sends_once<W: Wires>()
         → WorkerStep p k w step q l v → SendsThese (sent_with p) w v }
 {}
 
-/// However long a worker runs, the command of one job is sent once at most, whether the wires took it or failed, and that
-/// of a job that was cancelled before its claim never.
+/// A job's command is sent at most once, also where the send fails. A job that was cancelled before its claim is never
+/// sent.
 pub fn a_job_is_sent_once<W: Wires>()
     // The steps of one job are any of a run among which no other job is claimed.
     ensures once { (p q : Progress) (before job after : List Moment) → Runs W.Schedule p (before ++ job ++ after) q → ClaimsNoJob job

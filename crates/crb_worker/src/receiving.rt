@@ -63,6 +63,7 @@ fn receive<W: Wires>(wires: &mut W, into: &mut [u8]) -> Result<(), Failed>
     ensures err { OnErr result (Receives false (length into.old)
         (worker_wires W.fails W.later (W.link wires.old) (W.schedule wires.old) (W.faults wires.old) (W.traffic wires.old))
         (worker_wires W.fails W.later (W.link wires.new) (W.schedule wires.new) (W.faults wires.new) (W.traffic wires.new))) }
+    ensures uncut { W.cuts wires.new ≡ W.cuts wires.old }
 {
     receive_exact(wires, Chan::Data, into)
 }
@@ -78,6 +79,7 @@ pub fn receive_head<W: Wires>(wires: &mut W) -> Result<[u8; HEADER_SIZE], Failed
     ensures err { OnErr result (Receives false HEADER_SIZE
         (worker_wires W.fails W.later (W.link wires.old) (W.schedule wires.old) (W.faults wires.old) (W.traffic wires.old))
         (worker_wires W.fails W.later (W.link wires.new) (W.schedule wires.new) (W.faults wires.new) (W.traffic wires.new))) }
+    ensures uncut { W.cuts wires.new ≡ W.cuts wires.old }
 {
     let mut head = [0; HEADER_SIZE];
     receive(wires, &mut head)?;
@@ -101,6 +103,7 @@ pub fn hold_response<W: Wires>(
     ensures longer { OnErr result (is_longer head.now ≡ true) }
     ensures kept { OnErr result (buf.new ≡ buf.old) }
     ensures untouched { is_longer head.now ≡ false → wires.new ≡ wires.old }
+    ensures uncut { W.cuts wires.new ≡ W.cuts wires.old }
 {
     let size = size_of(head);
     if size <= HEADER_SIZE {

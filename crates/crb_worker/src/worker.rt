@@ -45,8 +45,8 @@ impl Worker {
     }
 
     /// Takes the claimed job one step further, or claims one. A claimed job needs the end of the port that claimed it
-    /// and hasn't posted its answer; without one any port serves, and where another's job is claimed none is. No memory
-    /// is taken: the job's buffer goes back with the answer.
+    /// and hasn't posted its answer. Without a job any port will do. If another worker's job is claimed there, none is
+    /// claimed. No memory is taken: the job's buffer goes back with the answer.
     pub fn step<P: WorkPort, W: Wires>(&mut self, port: &mut P, wires: &mut W) -> Step
         requires claimed_number { HasClaimed self.old (P.port_view port.old) }
         ensures works { let before = worker_wires W.fails W.later (W.link wires.old) (W.schedule wires.old) (W.faults wires.old) (W.traffic wires.old) in
@@ -61,6 +61,7 @@ impl Worker {
         ensures claimed_number { (P.port_view port.old).claimed_number ≡ claimed_number_of self.old → (P.port_view port.new).claimed_number ≡ claimed_number_of self.new }
         ensures head { holds_head self.new ≡ true }
         ensures rest_unchanged { P.rest port.new ≡ P.rest port.old }
+        ensures uncut { W.cuts wires.new ≡ W.cuts wires.old }
     {
         match mem::replace(&mut self.progress, Progress::Free) {
             Progress::Free => self.claim(port),
@@ -100,6 +101,7 @@ impl Worker {
         ensures claimed_number { (P.port_view port.new).claimed_number ≡ claimed_number_of self.new }
         ensures head { holds_head self.new ≡ true }
         ensures rest_unchanged { P.rest port.new ≡ P.rest port.old }
+        ensures uncut { W.cuts wires.new ≡ W.cuts wires.old }
     {
         if job.cancelled {
             return answer_cancelled(job, port);
@@ -123,6 +125,7 @@ impl Worker {
         ensures claimed_number { (P.port_view port.new).claimed_number ≡ claimed_number_of self.new }
         ensures head { holds_head self.new ≡ true }
         ensures rest_unchanged { P.rest port.new ≡ P.rest port.old }
+        ensures uncut { W.cuts wires.new ≡ W.cuts wires.old }
     {
         let Ok(head) = receive_head(wires) else {
             return give_up(job, port);
@@ -153,6 +156,7 @@ impl Worker {
         ensures claimed_number { (P.port_view port.new).claimed_number ≡ claimed_number_of self.new }
         ensures holds { holds_head self.new ≡ true }
         ensures rest_unchanged { P.rest port.new ≡ P.rest port.old }
+        ensures uncut { W.cuts wires.new ≡ W.cuts wires.old }
     {
         let number = job.number;
         let mut job = job;

@@ -1,5 +1,5 @@
 -- Bytes that pass one call after the other.
-use Rattle.std.proofs.Common.{◌≡◌, ◌≢◌, ℕ, ◌+◌, ◌<◌, ◌≤◌, Bool, List, [], ◌++◌, length, take, drop, Option, Some, None, Result, Ok, Err, refl, sym, ap, subst, ◌∙◌, append_assoc, append-nil, arith, cond, inr}
+use Rattle.std.proofs.Common.{◌≡◌, ◌≢◌, ℕ, ◌+◌, ◌<◌, ◌≤◌, Bool, false, List, [], ◌++◌, length, take, drop, Option, Some, None, Result, Ok, Err, refl, sym, ap, subst, ◌∙◌, append_assoc, append-nil, arith, cond, inr}
 use Rattle.std.specs.Prelude.{option_map, IfSome, IfOk, IfErr, OnOk, OnErr}
 use Rattle.std.proofs.Math.Seq.{take-append-add}
 use Rattle.std.proofs.lemmas.List.{length-take, length-take-le, take-append-le, take-take, length-append, map-append}
@@ -11,7 +11,7 @@ use Rattle.ctrl_client.specs.declared.fault.ClientFault.{ClientFault}
 use Rattle.ctrl_client.specs.declared.fault.ClientFault.TheVariants.{Link as LinkFault}
 use Rattle.ctrl_client.specs.Pieces.{checked_fields, leaves_bytes}
 use Rattle.ctrl_model.specs.Link.{Link, empty_channel, cut}
-use Rattle.ctrl_client.specs.Traffic.{Traffic, over, with_sent, with_received, Came, CamePart, Passed, encode_zeroed_request, fields_in, TellsPiece, LeavesSlice}
+use Rattle.ctrl_client.specs.Traffic.{Traffic, over, with_sent, with_received, Came, CamePart, Passed, encode_zeroed_request, fields_in, AnswersPiece, CutsForBytes, LeavesSlice}
 
 -- bytes behind others, and both over one channel
 behind : (chan : Chan) (was : List (Chan × ℕ)) (first bytes : List ℕ) → (was ++ over chan first) ++ over chan bytes ≡ was ++ over chan (first ++ bytes)
@@ -48,11 +48,11 @@ came_part (Err fault) chan count into part behind before mid after within first 
     (count + n, omega (arith, size, less), came_behind chan count n into part behind before mid after within (omega (arith, less)) first more)
 
 -- a piece that its fields give, with its data
-pub tells_piece : (q : Request) (offset : ℕ) (before mid after : Option Traffic) (link : Option Link) (fixed old new : List ℕ) (checked answer : Result Piece ClientFault) (piece : Piece)
+pub answers_piece : (q : Request) (offset : ℕ) (before mid after : Option Traffic) (link : Option Link) (fixed old new : List ℕ) (checked answer : Result Piece ClientFault) (piece : Piece)
     → length fixed ≡ 16 → Passed q [] fixed before mid → checked ≡ checked_fields (fields_in fixed) offset (length old) → checked ≡ Ok piece
     → IfOk answer (λ p. p ≡ piece) → IfErr answer (λ fault. fault ≡ LinkFault) → OnOk answer (Came Ctrl (take piece.length new) mid after) → drop piece.length new ≡ drop piece.length old
-    → answer ≢ Err LinkFault → TellsPiece q offset before after link old new answer
-tells_piece q offset before mid after link fixed old new checked (Ok p) piece size first exact is same failed came rest answered =
+    → answer ≢ Err LinkFault → AnswersPiece q offset before after link old new answer
+answers_piece q offset before mid after link fixed old new checked (Ok p) piece size first exact is same failed came rest answered =
     record {
       fixed = fixed;
       size = size;
@@ -61,7 +61,23 @@ tells_piece q offset before mid after link fixed old new checked (Ok p) piece si
       rest = rw same rest;
       forgotten = λ left. absurd cc;
     }
-tells_piece q offset before mid after link fixed old new checked (Err fault) piece size first exact is same failed came rest answered = absurd (answered (ap Err failed))
+answers_piece q offset before mid after link fixed old new checked (Err fault) piece size first exact is same failed came rest answered = absurd (answered (ap Err failed))
+
+-- so no channel was cut
+pub no_cut : (q : Request) (offset room : ℕ) (before mid after : Option Traffic) (cuts_before cuts_after : ℕ) (fixed new : List ℕ) (checked answer : Result Piece ClientFault) (piece : Piece)
+    → length fixed ≡ 16 → Passed q [] fixed before mid → checked ≡ checked_fields (fields_in fixed) offset room → checked ≡ Ok piece
+    → IfOk answer (λ p. p ≡ piece) → IfErr answer (λ fault. fault ≡ LinkFault) → OnOk answer (Came Ctrl (take piece.length new) mid after)
+    → cuts_after ≡ cuts_before → answer ≢ Err LinkFault → CutsForBytes q offset room before after cuts_before cuts_after answer
+no_cut q offset room before mid after cuts_before cuts_after fixed new checked (Ok p) piece size first exact is same failed came uncut answered =
+    record {
+      fixed = fixed;
+      size = size;
+      payload = take piece.length new;
+      passed = passed_joins q [] fixed (take piece.length new) before mid after first came;
+      answer_is = ap Ok same ∙ sym is ∙ exact;
+      uncut = λ none. uncut;
+    }
+no_cut q offset room before mid after cuts_before cuts_after fixed new checked (Err fault) piece size first exact is same failed came uncut answered = absurd (answered (ap Err failed))
 
 -- nothing waits on a channel that was cut
 cut_empties : (mid link : Option Link) → link ≡ option_map (cut Ctrl) mid → IfSome link (λ l. l.control ≡ empty_channel)
@@ -69,11 +85,11 @@ cut_empties None link is = subst (λ (o : Option Link). IfSome o (λ l. l.contro
 cut_empties (Some m) link is = subst (λ (o : Option Link). IfSome o (λ l. l.control ≡ empty_channel)) (sym is) refl
 
 -- fields that give no piece
-pub tells_refusal : (q : Request) (offset : ℕ) (before after : Option Traffic) (mid link : Option Link) (fixed old : List ℕ) (checked : Result Piece ClientFault) (fault : ClientFault)
+pub answers_refusal : (q : Request) (offset : ℕ) (before after : Option Traffic) (mid link : Option Link) (fixed old : List ℕ) (checked : Result Piece ClientFault) (fault : ClientFault)
     → length fixed ≡ 16 → Passed q [] fixed before after → checked ≡ checked_fields (fields_in fixed) offset (length old) → checked ≡ Err fault
     → link ≡ cond (leaves_bytes (Err fault) (fields_in fixed).size) (option_map (cut Ctrl) mid) mid
-    → TellsPiece q offset before after link old old (Err fault)
-tells_refusal q offset before after mid link fixed old checked fault size passed exact is cuts =
+    → AnswersPiece q offset before after link old old (Err fault)
+answers_refusal q offset before after mid link fixed old checked fault size passed exact is cuts =
     record {
       fixed = fixed;
       size = size;
@@ -81,6 +97,21 @@ tells_refusal q offset before after mid link fixed old checked fault size passed
       answer_is = sym is ∙ exact;
       rest = refl;
       forgotten = λ left. cut_empties mid link (cuts ∙ ap (λ (b : Bool). cond b (option_map (cut Ctrl) mid) mid) left);
+    }
+
+-- and what is cut then
+pub cut_for_bytes : (q : Request) (offset room : ℕ) (before after : Option Traffic) (cuts_before cuts_after : ℕ) (fixed : List ℕ) (checked : Result Piece ClientFault) (fault : ClientFault)
+    → length fixed ≡ 16 → Passed q [] fixed before after → checked ≡ checked_fields (fields_in fixed) offset room → checked ≡ Err fault
+    → (leaves_bytes (Err fault) (fields_in fixed).size ≡ false → cuts_after ≡ cuts_before)
+    → CutsForBytes q offset room before after cuts_before cuts_after (Err fault)
+cut_for_bytes q offset room before after cuts_before cuts_after fixed checked fault size passed exact is uncut =
+    record {
+      fixed = fixed;
+      size = size;
+      payload = [];
+      passed = subst (λ (xs : List ℕ). Passed q [] xs before after) (sym (append-nil fixed)) passed;
+      answer_is = sym is ∙ exact;
+      uncut = uncut;
     }
 
 -- a piece that its fields give, and whose data was lost

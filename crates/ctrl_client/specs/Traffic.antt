@@ -1,5 +1,5 @@
 -- What passes over wires that keep it, whatever is behind them, and the answers that it makes. (Own definitions.)
-use Rattle.std.specs.Prelude.{◌≡◌, ℕ, ◌<◌, ◌==◌, true, if◌then◌else◌, ◌⊎◌, List, [], ◌∷◌, ◌++◌, map, length, take, drop, Option, option_map, IfSome, Result, Ok, Err}
+use Rattle.std.specs.Prelude.{◌≡◌, ℕ, ◌<◌, ◌==◌, true, false, if◌then◌else◌, ◌⊎◌, List, [], ◌∷◌, ◌++◌, map, length, take, drop, Option, option_map, IfSome, Result, Ok, Err}
 use Rattle.std.specs.Int.{w32, from_be_bytes}
 use Rattle.vt_base.specs.declared.types.Chan.{Chan}
 use Rattle.vt_base.specs.declared.types.Chan.TheVariants.{Ctrl}
@@ -60,7 +60,7 @@ abbrev pub Passed : Request → List ℕ → List ℕ → Option Traffic → Opt
 Passed q payload reply before after = after ≡ option_map (λ t. with_received Ctrl reply (with_sent Ctrl (encode_zeroed_request q payload) t)) before
 
 -- the answer is the result that stands in the four bytes that came
-pub record TellsResult (q : Request) (payload : List ℕ) (before after : Option Traffic) (answer : Result (Unit {0}) ClientFault) : Type 0 where
+pub record AnswersResult (q : Request) (payload : List ℕ) (before after : Option Traffic) (answer : Result (Unit {0}) ClientFault) : Type 0 where
   pub reply : List ℕ
   pub size : length reply ≡ 4
   pub passed : Passed q payload reply before after
@@ -71,7 +71,7 @@ abbrev pub checked_size : ℕ → ℕ → Result ℕ ClientFault
 checked_size result size = if result == success then Ok size else Err (BadResult result)
 
 -- the answer is the size that stands in the sixteen bytes that came, or their result
-pub record TellsSize (q : Request) (before after : Option Traffic) (answer : Result ℕ ClientFault) : Type 0 where
+pub record AnswersSize (q : Request) (before after : Option Traffic) (answer : Result ℕ ClientFault) : Type 0 where
   pub reply : List ℕ
   pub size : length reply ≡ 16
   pub passed : Passed q [] reply before after
@@ -88,13 +88,22 @@ data_size (Err fault) = 0
 
 -- The answer is what the fields that came say, and the data that came is in front of the rest of the slice. Bytes that
 -- a refused reply may have left on the control channel are forgotten.
-pub record TellsPiece (q : Request) (offset : ℕ) (before after : Option Traffic) (link : Option Link) (old new : List ℕ) (answer : Result Piece ClientFault) : Type 0 where
+pub record AnswersPiece (q : Request) (offset : ℕ) (before after : Option Traffic) (link : Option Link) (old new : List ℕ) (answer : Result Piece ClientFault) : Type 0 where
   pub fixed : List ℕ
   pub size : length fixed ≡ 16
   pub passed : Passed q [] (fixed ++ take (data_size answer) new) before after
   pub answer_is : answer ≡ checked_fields (fields_in fixed) offset (length old)
   pub rest : drop (data_size answer) new ≡ drop (data_size answer) old
   pub forgotten : leaves_bytes answer (fields_in fixed).size ≡ true → IfSome link (λ l. l.control ≡ empty_channel)
+
+-- A channel is cut only where the fields that came were refused and more bytes of that reply may wait.
+pub record CutsForBytes (q : Request) (offset room : ℕ) (before after : Option Traffic) (cuts_before cuts_after : ℕ) (answer : Result Piece ClientFault) : Type 0 where
+  pub fixed : List ℕ
+  pub size : length fixed ≡ 16
+  pub payload : List ℕ
+  pub passed : Passed q [] (fixed ++ payload) before after
+  pub answer_is : answer ≡ checked_fields (fields_in fixed) offset room
+  pub uncut : leaves_bytes answer (fields_in fixed).size ≡ false → cuts_after ≡ cuts_before
 
 -- The data of a piece was lost: the fields came and give the piece, and then fewer bytes of it than it has. Those are in
 -- front, and the slice behind the piece is as it was. Between them the wires may have left anything.

@@ -5,7 +5,7 @@ ghost use Rattle.ctrl_codec.specs.Requests.{HasData, IsInRange};
 ghost use Rattle.ctrl_codec.specs.Replies.{encode_reply};
 ghost use Rattle.ctrl_model.specs.Emulator.{EmulatorState, RequestOutcome, HandlesRequest, kind_of, type_of};
 ghost use Rattle.ctrl_client.specs.Exchange.{IsQuiet, SendsRequest, Exchanges, HasResult, Commands, CountsLink};
-ghost use Rattle.ctrl_client.specs.Traffic.{Went, Passed, TellsResult, encode_zeroed_request};
+ghost use Rattle.ctrl_client.specs.Traffic.{Went, Passed, AnswersResult, encode_zeroed_request};
 
 use crate::fault::ClientFault;
 use crate::receive::receive_exact;
@@ -22,6 +22,7 @@ fn send_request<W: Wires>(wires: &mut W, request: &Request, payload: &[u8]) -> R
         → SendsRequest W.fails W.later request.now payload.now l (W.schedule wires.old) (is_ok result) (W.link wires.new) (W.schedule wires.new)) }
     ensures went { OnOk result (Went Chan.Ctrl (encode_zeroed_request request.now payload.now) (W.traffic wires.old) (W.traffic wires.new)) }
     ensures counts { Counts (W.faults wires.old) (W.faults wires.new) result }
+    ensures uncut { W.cuts wires.new ≡ W.cuts wires.old }
 {
     let mut out = Out::new();
     write_request(request, payload, &mut out);
@@ -50,6 +51,7 @@ pub(crate) fn exchange<W: Wires>(
     ensures passed { OnOk result (Passed request.now payload.now reply.new (W.traffic wires.old) (W.traffic wires.new)) }
     ensures size { length reply.new ≡ length reply.old }
     ensures counts { Counts (W.faults wires.old) (W.faults wires.new) result }
+    ensures uncut { W.cuts wires.new ≡ W.cuts wires.old }
 {
     send_request(wires, request, payload)?;
     receive_exact(wires, Chan::Ctrl, reply)
@@ -64,8 +66,9 @@ fn command<W: Wires>(wires: &mut W, request: &Request, payload: &[u8]) -> Result
         → Commands W.fails W.later request.now payload.now l (W.schedule wires.old) result (W.link wires.new) (W.schedule wires.new)) }
 
     // Over any wires.
-    ensures reply { result ≢ Err ClientFault.Link → TellsResult request.now payload.now (W.traffic wires.old) (W.traffic wires.new) result }
+    ensures reply { result ≢ Err ClientFault.Link → AnswersResult request.now payload.now (W.traffic wires.old) (W.traffic wires.new) result }
     ensures counts { CountsLink (W.faults wires.old) (W.faults wires.new) result }
+    ensures uncut { W.cuts wires.new ≡ W.cuts wires.old }
     ensures refused { (number : ℕ) → result ≡ Err (ClientFault.Result number) → number ≢ 0 }
     ensures no_reply { (place : ℕ) → result ≢ Err (ClientFault.Reply place) }
 {
@@ -99,8 +102,9 @@ pub fn init<W: Wires>(wires: &mut W, flags: u32) -> Result<(), ClientFault>
         → Commands W.fails W.later (Request.Init flags) [] l (W.schedule wires.old) result (W.link wires.new) (W.schedule wires.new)) }
 
     // Over any wires.
-    ensures reply { result ≢ Err ClientFault.Link → TellsResult (Request.Init flags) [] (W.traffic wires.old) (W.traffic wires.new) result }
+    ensures reply { result ≢ Err ClientFault.Link → AnswersResult (Request.Init flags) [] (W.traffic wires.old) (W.traffic wires.new) result }
     ensures counts { CountsLink (W.faults wires.old) (W.faults wires.new) result }
+    ensures uncut { W.cuts wires.new ≡ W.cuts wires.old }
     ensures refused { (number : ℕ) → result ≡ Err (ClientFault.Result number) → number ≢ 0 }
     ensures no_reply { (place : ℕ) → result ≢ Err (ClientFault.Reply place) }
 {
@@ -114,8 +118,9 @@ pub fn stop<W: Wires>(wires: &mut W) -> Result<(), ClientFault>
         → Commands W.fails W.later Request.Stop [] l (W.schedule wires.old) result (W.link wires.new) (W.schedule wires.new)) }
 
     // Over any wires.
-    ensures reply { result ≢ Err ClientFault.Link → TellsResult Request.Stop [] (W.traffic wires.old) (W.traffic wires.new) result }
+    ensures reply { result ≢ Err ClientFault.Link → AnswersResult Request.Stop [] (W.traffic wires.old) (W.traffic wires.new) result }
     ensures counts { CountsLink (W.faults wires.old) (W.faults wires.new) result }
+    ensures uncut { W.cuts wires.new ≡ W.cuts wires.old }
     ensures refused { (number : ℕ) → result ≡ Err (ClientFault.Result number) → number ≢ 0 }
     ensures no_reply { (place : ℕ) → result ≢ Err (ClientFault.Reply place) }
 {
@@ -129,8 +134,9 @@ pub fn cancel<W: Wires>(wires: &mut W) -> Result<(), ClientFault>
         → Commands W.fails W.later Request.CancelCommand [] l (W.schedule wires.old) result (W.link wires.new) (W.schedule wires.new)) }
 
     // Over any wires.
-    ensures reply { result ≢ Err ClientFault.Link → TellsResult Request.CancelCommand [] (W.traffic wires.old) (W.traffic wires.new) result }
+    ensures reply { result ≢ Err ClientFault.Link → AnswersResult Request.CancelCommand [] (W.traffic wires.old) (W.traffic wires.new) result }
     ensures counts { CountsLink (W.faults wires.old) (W.faults wires.new) result }
+    ensures uncut { W.cuts wires.new ≡ W.cuts wires.old }
     ensures refused { (number : ℕ) → result ≡ Err (ClientFault.Result number) → number ≢ 0 }
     ensures no_reply { (place : ℕ) → result ≢ Err (ClientFault.Reply place) }
 {
@@ -146,8 +152,9 @@ pub fn put_piece<W: Wires>(wires: &mut W, kind: Kind, bytes: &[u8]) -> Result<()
         → Commands W.fails W.later (Request.SetStateBlob 0 (type_of kind) (length bytes.now)) bytes.now l (W.schedule wires.old) result (W.link wires.new) (W.schedule wires.new)) }
 
     // Over any wires.
-    ensures reply { result ≢ Err ClientFault.Link → TellsResult (Request.SetStateBlob 0 (type_of kind) (length bytes.now)) bytes.now (W.traffic wires.old) (W.traffic wires.new) result }
+    ensures reply { result ≢ Err ClientFault.Link → AnswersResult (Request.SetStateBlob 0 (type_of kind) (length bytes.now)) bytes.now (W.traffic wires.old) (W.traffic wires.new) result }
     ensures counts { CountsLink (W.faults wires.old) (W.faults wires.new) result }
+    ensures uncut { W.cuts wires.new ≡ W.cuts wires.old }
     ensures refused { (number : ℕ) → result ≡ Err (ClientFault.Result number) → number ≢ 0 }
     ensures no_reply { (place : ℕ) → result ≢ Err (ClientFault.Reply place) }
 {

@@ -1,12 +1,12 @@
 //! A piece of a blob, and the size of the buffer.
-ghost use Rattle.std.specs.Prelude.{◌≡◌, ◌≢◌, ◌≤◌, ℕ, length, take, drop, nat_lt, if◌then◌else◌, Err, IfOk, IfErr, IfSome, OnOk, OnErr, option_map};
+ghost use Rattle.std.specs.Prelude.{◌≡◌, ◌≢◌, ◌≤◌, ℕ, length, take, drop, nat_lt, if◌then◌else◌, false, Err, IfOk, IfErr, IfSome, OnOk, OnErr, option_map};
 ghost use Rattle.vt_base.specs.Numbers.{big_endian_at};
 ghost use Rattle.std.specs.Int.{w32};
 ghost use Rattle.ctrl_model.specs.Emulator.{type_of};
 ghost use Rattle.ctrl_model.specs.Link.{empty_channel, receivable, cut};
 ghost use Rattle.ctrl_client.specs.Pieces.{checked_fields, leaves_bytes, IsPiece, IsPlace, HasField, Fetches, TakesData, IsSized, Sizes};
 ghost use Rattle.ctrl_client.specs.Exchange.{CountsLink};
-ghost use Rattle.ctrl_client.specs.Traffic.{Came, CamePart, fields_in, TellsPiece, LeavesSlice, TellsSize};
+ghost use Rattle.ctrl_client.specs.Traffic.{Came, CamePart, fields_in, AnswersPiece, CutsForBytes, LeavesSlice, AnswersSize};
 
 use crate::client::{exchange, type_of};
 use crate::fault::ClientFault;
@@ -74,10 +74,10 @@ impl Fields {
 }
 
 /// Asks for a piece of a blob, from this place on, and puts its bytes in front of `into`. The emulator says how long a piece
-/// is; one that is longer than `into`, or has none of the bytes that are left, is answered as a reply that can't stand.
+/// is. A piece longer than `into`, or an empty piece before the end of the blob, gives `Reply`.
 ///
-/// The bytes of `into` behind the piece stay as they were, and with a refusal all of them do. After `Link` the bytes that
-/// were received before the fault are in front, and the rest of the piece's place may hold anything. After `Reply`, and after
+/// The bytes of `into` behind the piece stay as they were, and with a refusal all of them do. After `Link`, `into` begins
+/// with the bytes that were received. From there to the piece's length it may hold anything. After `Reply`, and after
 /// `Result` where the reply says that data follows it, the control channel is cut: those bytes must not be read as the
 /// next reply. After a `Result` with no data there is nothing to forget, and the channel isn't cut.
 pub fn get_piece<W: Wires>(
@@ -93,9 +93,12 @@ pub fn get_piece<W: Wires>(
 
     // Over any wires.
     ensures reply { result ≢ Err ClientFault.Link
-        → TellsPiece (Request.GetStateBlob 0 (type_of kind) offset) offset (W.traffic wires.old) (W.traffic wires.new) (W.link wires.new) into.old into.new result }
+        → AnswersPiece (Request.GetStateBlob 0 (type_of kind) offset) offset (W.traffic wires.old) (W.traffic wires.new) (W.link wires.new) into.old into.new result }
     ensures slice { result ≡ Err ClientFault.Link
         → LeavesSlice (Request.GetStateBlob 0 (type_of kind) offset) offset (W.traffic wires.old) (W.traffic wires.new) into.old into.new }
+    ensures uncut { result ≡ Err ClientFault.Link → W.cuts wires.new ≡ W.cuts wires.old }
+    ensures cuts { result ≢ Err ClientFault.Link
+        → CutsForBytes (Request.GetStateBlob 0 (type_of kind) offset) offset (length into.old) (W.traffic wires.old) (W.traffic wires.new) (W.cuts wires.old) (W.cuts wires.new) result }
     ensures piece { IfOk result (IsPiece offset (length into.old)) }
     ensures counts { CountsLink (W.faults wires.old) (W.faults wires.new) result }
     ensures refused { (number : ℕ) → result ≡ Err (ClientFault.Result number) → number ≢ 0 }
@@ -128,6 +131,7 @@ fn forget_rest<W: Wires>(wires: &mut W, fault: ClientFault, fields: &Fields)
     ensures link { W.link wires.new ≡ (if leaves_bytes (Err fault) fields.now.size then option_map (cut Chan.Ctrl) (W.link wires.old) else W.link wires.old) }
     ensures schedule { IfSome (W.link wires.old) (λ _. W.schedule wires.new ≡ W.schedule wires.old) }
     ensures traffic { W.traffic wires.new ≡ W.traffic wires.old }
+    ensures uncut { leaves_bytes (Err fault) fields.now.size ≡ false → W.cuts wires.new ≡ W.cuts wires.old }
     ensures faults { W.faults wires.new ≡ W.faults wires.old }
 {
     let is_malformed = match fault {
@@ -155,6 +159,7 @@ fn receive_data<W: Wires>(
     ensures size { length into.new ≡ length into.old }
     ensures fault { IfErr result (λ fault. fault ≡ ClientFault.Link) }
     ensures counts { CountsLink (W.faults wires.old) (W.faults wires.new) result }
+    ensures uncut { W.cuts wires.new ≡ W.cuts wires.old }
 {
     if piece.length == 0 {
         return Ok(piece);
@@ -174,8 +179,9 @@ pub fn set_buffer<W: Wires>(wires: &mut W, size: u32) -> Result<u32, ClientFault
         → Sizes W.fails W.later size l (W.schedule wires.old) result (W.link wires.new) (W.schedule wires.new)) }
 
     // Over any wires.
-    ensures reply { result ≢ Err ClientFault.Link → TellsSize (Request.SetBufferSize size) (W.traffic wires.old) (W.traffic wires.new) result }
+    ensures reply { result ≢ Err ClientFault.Link → AnswersSize (Request.SetBufferSize size) (W.traffic wires.old) (W.traffic wires.new) result }
     ensures counts { CountsLink (W.faults wires.old) (W.faults wires.new) result }
+    ensures uncut { W.cuts wires.new ≡ W.cuts wires.old }
     ensures refused { (number : ℕ) → result ≡ Err (ClientFault.Result number) → number ≢ 0 }
     ensures no_reply { (place : ℕ) → result ≢ Err (ClientFault.Reply place) }
 {

@@ -20,6 +20,7 @@ pub fn receive_exact<W: Wires>(wires: &mut W, chan: Chan, into: &mut [u8]) -> Re
     ensures came { OnOk result (Came chan into.new (W.traffic wires.old) (W.traffic wires.new)) }
     ensures part { OnErr result (CamePart chan into.new (W.traffic wires.old) (W.traffic wires.new)) }
     ensures counts { Counts (W.faults wires.old) (W.faults wires.new) result }
+    ensures uncut { W.cuts wires.new ≡ W.cuts wires.old }
 {
     let count = wires.receive(chan, into)?;
     receive_rest(wires, chan, &mut into[count..])
@@ -32,6 +33,7 @@ fn receive_rest<W: Wires>(wires: &mut W, chan: Chan, into: &mut [u8]) -> Result<
     ensures came { OnOk result (Came chan into.new (W.traffic wires.old) (W.traffic wires.new)) }
     ensures part { OnErr result (CamePart chan into.new (W.traffic wires.old) (W.traffic wires.new)) }
     ensures counts { Counts (W.faults wires.old) (W.faults wires.new) result }
+    ensures uncut { W.cuts wires.new ≡ W.cuts wires.old }
 {
     let mut done = 0;
     while done < into.len() {

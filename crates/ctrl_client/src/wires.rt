@@ -1,5 +1,5 @@
 //! The link to one emulator.
-ghost use Rattle.std.specs.Prelude.{◌≡◌, ◌<◌, ◌&&◌, ℕ, List, Option, Bool, not, length, take, is_ok, option_map, IfOk, IfSome};
+ghost use Rattle.std.specs.Prelude.{◌≡◌, ◌<◌, ◌≤◌, ◌&&◌, ℕ, List, Option, Bool, not, length, take, is_ok, option_map, IfOk, IfSome};
 ghost use Rattle.std.specs.Io.{ReadsAtMost};
 ghost use Rattle.vt_base.specs.Faults.{Counts};
 ghost use Rattle.ctrl_model.specs.Emulator.{is_nil};
@@ -31,12 +31,16 @@ pub trait Wires {
     /// All bytes that were sent so far, and all that were received, where they keep them.
     ghost traffic: { Self → Option Traffic };
 
+    /// A count that rises with cuts alone, and may stay at its last value.
+    ghost cuts: { Self → ℕ };
+
     /// Sends bytes, all of them or none.
     fn send(&mut self, chan: Chan, bytes: &[u8]) -> Result<(), Failed>
         ensures link { LinkSteps (SentBy (is_ok result) chan bytes.now) (link self.old) (link self.new) }
         ensures fails { IfSome (link self.old) (λ _. is_ok result ≡ not (fails (schedule self.old))) }
         ensures schedule { IfSome (link self.old) (λ _. schedule self.new ≡ later (schedule self.old)) }
         ensures traffic { traffic self.new ≡ option_map (after_send chan bytes.now result) (traffic self.old) }
+        ensures uncut { cuts self.new ≡ cuts self.old }
         ensures counts { Counts (faults self.old) (faults self.new) result };
 
     /// Gives the next bytes: at least one, unless the slice is empty.
@@ -48,6 +52,7 @@ pub trait Wires {
         ensures fails { IfSome (link self.old) (λ l. is_ok result ≡ (not (fails (schedule self.old)) && not (is_nil (receivable chan l)))) }
         ensures schedule { IfSome (link self.old) (λ _. schedule self.new ≡ later (schedule self.old)) }
         ensures traffic { traffic self.new ≡ option_map (after_receive chan into.new result) (traffic self.old) }
+        ensures uncut { cuts self.new ≡ cuts self.old }
         ensures counts { Counts (faults self.old) (faults self.new) result };
 
     /// Forgets the bytes that wait on a channel.
@@ -55,5 +60,6 @@ pub trait Wires {
         ensures link { link self.new ≡ option_map (cut chan) (link self.old) }
         ensures schedule { IfSome (link self.old) (λ _. schedule self.new ≡ schedule self.old) }
         ensures traffic { traffic self.new ≡ traffic self.old }
+        ensures counts_cuts { cuts self.old ≤ cuts self.new }
         ensures faults { faults self.new ≡ faults self.old };
 }

@@ -122,14 +122,12 @@ lost_not Completion works is = absurd cc
 pub whole_decoded : (f : Fields) (bytes : List ℕ) → IsBytes bytes → Encodes record_layout (Ok f) bytes → Restores f bytes
 whole_decoded f bytes fits spelled =
     let w = record_decoded f bytes fits spelled in
-    let content : drop 23 bytes ≡ w.content = ap (drop 23) w.parts in
     let t = decoded_is_record f bytes fits spelled in
     record {
       is_record = t.0;
       size = t.1;
       within_limit = w.whole.count;
       working = lost_not f.regs.phase w.whole.working;
-      idle = λ is. content ∙ nil_from_length w.content (w.whole.size ∙ w.whole.idle (ap is_idle is));
       waits = λ on. executing_is f.regs.phase (w.whole.waits on);
     }
 
@@ -157,6 +155,10 @@ pub values_restored : (f : Fields) (bytes : List ℕ) (v : DeviceValues) → Res
 values_restored f bytes v restores same =
     let all : v ≡ values_of f (drop 23 bytes) = same ∙ ap (λ (content : List ℕ). values_of f content) (take_rest bytes 23) in
     subst (λ (x : DeviceValues). IsRecord bytes x) (sym all) restores.is_record
+
+-- the content of an idle device is zeros
+pub idle_restored : (f : Fields) (bytes : List ℕ) → Restores f bytes → f.regs.phase ≡ Idle → followed_by_zeros (take (length bytes - 23) (drop 23 bytes)) ≡ zeros 3968
+idle_restored f bytes restores idle = ap followed_by_zeros (take_rest bytes 23) ∙ restores.is_record.fit.idle idle
 
 -- whichever values the bytes are the record of, the device gets those
 pub restored_as : {P : Type 0} (f : Fields) (bytes : List ℕ) (v : DeviceValues) (d e : DeviceModel P) → Restores f bytes → IsRecord bytes v

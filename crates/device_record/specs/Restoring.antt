@@ -1,6 +1,6 @@
 -- What a record gives a device that is to get its values. (Own definitions.)
-use Rattle.std.specs.Prelude.{◌≡◌, ◌≢◌, ℕ, ◌+◌, ◌≤◌, true, List, [], length, drop}
-use Rattle.crb_regs.specs.declared.phase.Phase.TheVariants.{Idle, Execution, Lost}
+use Rattle.std.specs.Prelude.{◌≡◌, ◌≢◌, ℕ, ◌+◌, ◌≤◌, true, List, length, drop}
+use Rattle.crb_regs.specs.declared.phase.Phase.TheVariants.{Execution, Lost}
 use Rattle.device_record.specs.declared.fields.Fields.{Fields}
 use Rattle.device_record.specs.Records.{values_of, IsRecord}
 
@@ -10,5 +10,4 @@ pub record Restores (f : Fields) (bytes : List ℕ) : Type 0 where
   pub size : length bytes ≡ 23 + f.count
   pub within_limit : f.count ≤ 3968
   pub working : f.regs.phase ≢ Lost
-  pub idle : f.regs.phase ≡ Idle → drop 23 bytes ≡ []
   pub waits : f.cancelled ≡ true → f.regs.phase ≡ Execution

@@ -25,7 +25,7 @@ pub fn records_are_prefix_free()
         ((v : DeviceValues) × IsRecord bytes v) ⊎ ((fault : Malformed) × IsRefused fault bytes) }
     ensures refused_once { (f g : Malformed) (bytes : List ℕ) → IsRefused f bytes → IsRefused g bytes → f ≡ g }
 
-    // They are cut exactly where they end before a record does, and too many exactly behind one.
+    // `Cut` comes exactly if the bytes end before a record does; `Extra` exactly if a record ends before they do.
     ensures cut { (fault : Malformed) (bytes : List ℕ) → IsRefused fault bytes → fault.why ≡ Cut → AreCut fault bytes }
     ensures extra { (fault : Malformed) (bytes : List ℕ) → IsRefused fault bytes → fault.why ≡ Extra → GoOn fault bytes }
 

@@ -25,9 +25,6 @@ use Rattle.saved_stream.proofs.Near.{length_within}
 abbrev pub RecordNotRefused : Type 0
 RecordNotRefused = (v : DeviceValues) (fault : Malformed) → AreValid v → layouts.IsRefused fault (encode_record v) → ⊥
 
-abbrev pub RecordGoesOn : Type 0
-RecordGoesOn = (fault : Malformed) (bytes : List ℕ) → layouts.IsRefused fault bytes → fault.why ≡ Extra → layouts.GoOn fault bytes
-
 abbrev pub BlobIsDecoded : Type 0
 BlobIsDecoded = (kind : Kind) (bytes : List ℕ) → IsBlob kind bytes → Encodes (blob kind) (Ok tt) bytes
 
@@ -60,12 +57,6 @@ part_to_end part bytes rest from is le within_limit whole = record {
 
 pub stopped : (part : Part) (place : ℕ) (inner fault : Malformed) (bytes rest : List ℕ) → rest ≡ bytes → IsPartRefused part inner rest → inner.why ≢ Extra → fault ≡ moved place inner → IsStopped part place fault bytes
 stopped part place inner fault bytes rest same refused other is = record { inner = inner; refused = subst (IsPartRefused part inner) same refused; not_behind = other; named = is }
-
--- ---- the record
-
--- Others stand behind it.
-pub record_behind : RecordGoesOn → (fault : Malformed) (bytes : List ℕ) → layouts.IsRefused fault bytes → fault.why ≡ Extra → fault.place < length bytes
-record_behind goes_on fault bytes refused why = (goes_on fault bytes refused why).behind
 
 -- ---- a blob
 

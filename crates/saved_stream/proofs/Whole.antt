@@ -16,7 +16,7 @@ use Rattle.state_blobs.specs.declared.types.BlobFault.{BlobFault}
 use Rattle.state_blobs.specs.Gathering.{Gathering}
 use Rattle.state_blobs.specs.Encodings.{encode_blob, IsBlob}
 use Rattle.state_blobs.specs.Refusals.{length_field}
-use Rattle.state_blobs.specs.Assembly.{TellsVolatile, TellsSaved, IsAssembled, IsNoneOrOfVersion, version_in, IsFaultFor, IsFault}
+use Rattle.state_blobs.specs.Assembly.{EncodesVolatile, EncodesSaved, IsAssembled, IsNoneOrOfVersion, version_in, IsFaultFor, IsFault}
 use Rattle.crb_history.specs.Snapshot.{Snapshot}
 use Rattle.saved_stream.specs.Numbers.{format_version}
 use Rattle.saved_stream.specs.declared.reading.Places.{Places}
@@ -68,11 +68,11 @@ no_empty_blob : (kind : Kind) (bytes : List ℕ) → bytes ≡ [] → IsBlob kin
 unfolding encode_blob
 no_empty_blob kind bytes none is = let never : [] ≡ encode_blob kind is.values = sym none ∙ is.spelled in absurd cc
 
-volatile_decoded : (bytes : List ℕ) (tpm : TpmParts) → IsBlob Volatile bytes → TellsVolatile bytes tpm → bytes ≡ encode_blob Volatile tpm
+volatile_decoded : (bytes : List ℕ) (tpm : TpmParts) → IsBlob Volatile bytes → EncodesVolatile bytes tpm → bytes ≡ encode_blob Volatile tpm
 volatile_decoded bytes tpm is (inl exact) = exact
 volatile_decoded bytes tpm is (inr (none, off)) = absurd (no_empty_blob Volatile bytes none is)
 
-saved_decoded : (bytes : List ℕ) (tpm : TpmParts) → IsBlob Saved bytes → TellsSaved bytes tpm → bytes ≡ encode_blob Saved tpm
+saved_decoded : (bytes : List ℕ) (tpm : TpmParts) → IsBlob Saved bytes → EncodesSaved bytes tpm → bytes ≡ encode_blob Saved tpm
 saved_decoded bytes tpm is (inl exact) = exact
 saved_decoded bytes tpm is (inr (none, gone)) = absurd (no_empty_blob Saved bytes none is)
 

@@ -1,10 +1,7 @@
 -- Where the parts of a stream stand. (Own definitions.)
-use Rattle.std.specs.Prelude.{◌≡◌, ℕ, ◌+◌, ◌-◌, ◌≤◌, ◌⊎◌, List, length}
+use Rattle.std.specs.Prelude.{ℕ, ◌+◌, ◌-◌, ◌≤◌, List, length}
 use Rattle.vt_base.specs.declared.types.Kind.{Kind}
 use Rattle.vt_base.specs.declared.types.Kind.TheVariants.{Permanent, Volatile, Saved}
-use Rattle.crb_machine.specs.Values.{held_values}
-use Rattle.crb_machine.specs.Model.{DeviceModel}
-use Rattle.device_record.specs.Records.{IsRecord}
 use Rattle.state_blobs.specs.Encodings.{slice}
 use Rattle.saved_stream.specs.declared.part.Part.{Part}
 use Rattle.saved_stream.specs.declared.part.Part.TheVariants.{Record, Blob}
@@ -34,7 +31,3 @@ pub record AreAt (bytes : List ℕ) (at : Places) : Type 0 where
   pub permanent : IsPartAt (Blob Permanent) bytes at.permanent at.volatile
   pub volatile : IsPartAt (Blob Volatile) bytes at.volatile at.saved
   pub saved : IsPartAt (Blob Saved) bytes at.saved at.end
-
--- A device that bytes were refused for: it is as it was, or has the values of the record behind the head.
-abbrev pub IsLeft : {P : Type 0} → List ℕ → DeviceModel P → DeviceModel P → Type 0
-IsLeft bytes old new = (new ≡ old) ⊎ ((end : ℕ) × IsRecord (between bytes 9 end) (held_values new))

@@ -52,8 +52,8 @@ pub fn streams_have_a_length()
     state_blobs::laws::blobs_have_a_length();
 }
 
-/// A reader that takes no more than is wanted, until nothing is or the input ends, has what it needs to tell a stream from
-/// bytes that begin with none.
+/// Read as many bytes as `wanted` says, until it says 0 or the input ends. Those bytes decide whether the input begins with
+/// a stream.
 pub fn wanted_bytes_are_enough()
     ensures start { EndsNoStream [] }
     ensures more { (bytes more : List ℕ) → EndsNoStream bytes → length more ≤ wanted_after bytes → EndsNoStream (bytes ++ more) }

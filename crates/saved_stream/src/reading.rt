@@ -12,21 +12,20 @@ ghost use Rattle.saved_stream.specs.declared.part.Part.TheVariants.{Record, Blob
 ghost use Rattle.saved_stream.specs.Parts.{parts};
 ghost use Rattle.saved_stream.specs.Streams.{IsStream};
 ghost use Rattle.saved_stream.specs.Refusals.{moved, IsStopped, ArePartsRefused, HasHead, IsStreamRefused};
-ghost use Rattle.saved_stream.specs.Places.{between, IsLeft, IsPartAt, AreAt};
+ghost use Rattle.saved_stream.specs.Places.{between, IsPartAt, AreAt};
 
 use crate::format::{HEADER_SIZE, LENGTH_PLACE};
 use crate::head::length_of;
 use crb_machine::Device;
 use crb_port::Port;
-use device_record::load_record;
+use device_record::{check_record, load_record};
 use state_blobs::{Gather, assemble};
 use std::alloc::{AllocError, Global};
 use tpm_core::Tpm;
 use vt_base::{Kind, Malformed, Why};
 
 /// Gives a held device the values of a stream's record, and makes the TPM of its blobs. Bytes that are no stream are
-/// refused, and then the device, which stays held, has either its old values or those of the record. Where memory is
-/// wanting nothing is changed.
+/// refused. After a refusal, or for lack of memory, the device is as before. It stays held.
 pub fn read_stream<P: Port>(
     alloc: Global,
     bytes: &[u8],
@@ -36,7 +35,7 @@ pub fn read_stream<P: Port>(
 
     ensures stream { IfOk result (λ read. IfOk read (λ tpm. IsStream bytes.now (record { tpm = tpm; device = held_values device.new }))) }
     ensures refused { IfOk result (λ read. IfErr read (λ fault. IsStreamRefused fault bytes.now)) }
-    ensures left { IfOk result (λ read. OnErr read (IsLeft bytes.now device.old device.new)) }
+    ensures unchanged { IfOk result (λ read. OnErr read (device.new ≡ device.old)) }
     ensures err { OnErr result (device.new ≡ device.old) }
     ensures held { device.new.held ≡ true }
     ensures port { device.new.port ≡ device.old.port }
@@ -75,6 +74,7 @@ impl Places {
     }
 }
 
+// Reads a stream. The device is loaded last, when nothing is left to refuse.
 fn read_whole<P: Port>(
     bytes: &[u8],
     device: &mut Device<P>,
@@ -88,7 +88,7 @@ fn read_whole<P: Port>(
     requires saved { saved.old ≡ record { kind = Saved; begun = []; whole = false } }
     ensures stream { IfOk result (λ tpm. IsStream bytes.now (record { tpm = tpm; device = held_values device.new })) }
     ensures refused { IfErr result (λ fault. IsStreamRefused fault bytes.now) }
-    ensures left { OnErr result (IsLeft bytes.now device.old device.new) }
+    ensures unchanged { OnErr result (device.new ≡ device.old) }
     ensures held { device.new.held ≡ true }
     ensures port { device.new.port ≡ device.old.port }
     ensures consistent { OnOk result (IsConsistentDevice P.port_view device.new) }
@@ -96,7 +96,7 @@ fn read_whole<P: Port>(
     ensures rest_unchanged { P.rest device.new.port ≡ P.rest device.old.port }
 {
     let length = length_of(bytes)?;
-    let at = parts_at(bytes, device, permanent, volatile, saved)?;
+    let at = parts_at(bytes, permanent, volatile, saved)?;
     if length as usize != at.end - HEADER_SIZE {
         return Err(Malformed {
             why: Why::Length,
@@ -113,36 +113,46 @@ fn read_whole<P: Port>(
             place: at.end as u32,
         });
     }
+    load(bytes, at.permanent, device);
     Ok(tpm)
 }
 
+/// Gives the device the values of the record, which ends at this place.
+fn load<P: Port>(bytes: &[u8], end: usize, device: &mut Device<P>)
+    requires held { device.old.held ≡ true }
+    requires part { IsPartAt Record bytes.now 9 end }
+    ensures ok { IsRecord (between bytes.now 9 end) (held_values device.new) }
+    ensures held { device.new.held ≡ true }
+    ensures port { device.new.port ≡ device.old.port }
+    ensures consistent { IsConsistentDevice P.port_view device.new }
+    ensures claimed_number { HasClaimedNumber P.port_view device.new }
+    ensures rest_unchanged { P.rest device.new.port ≡ P.rest device.old.port }
+{
+    device_record::laws::records_are_prefix_free();
+    let (_, rest) = bytes.split_at(HEADER_SIZE);
+    let Ok(()) = load_record(device, &rest[..end - HEADER_SIZE]) else {
+        unreachable!()
+    };
+}
+
 /// Reads the four parts, and says where they stand.
-fn parts_at<P: Port>(
+fn parts_at(
     bytes: &[u8],
-    device: &mut Device<P>,
     permanent: &mut Gather,
     volatile: &mut Gather,
     saved: &mut Gather,
 ) -> Result<Places, Malformed>
     requires head { 9 ≤ length bytes.now }
-    requires held { device.old.held ≡ true }
     requires permanent { permanent.old ≡ record { kind = Permanent; begun = []; whole = false } }
     requires volatile { volatile.old ≡ record { kind = Volatile; begun = []; whole = false } }
     requires saved { saved.old ≡ record { kind = Saved; begun = []; whole = false } }
     ensures parts { IfOk result (AreAt bytes.now) }
-    ensures device { IfOk result (λ at. IsRecord (between bytes.now 9 at.permanent) (held_values device.new)) }
     ensures permanent { IfOk result (λ at. permanent.new ≡ record { kind = Permanent; begun = between bytes.now at.permanent at.volatile; whole = true }) }
     ensures volatile { IfOk result (λ at. volatile.new ≡ record { kind = Volatile; begun = between bytes.now at.volatile at.saved; whole = true }) }
     ensures saved { IfOk result (λ at. saved.new ≡ record { kind = Saved; begun = between bytes.now at.saved at.end; whole = true }) }
     ensures refused { IfErr result (λ fault. ArePartsRefused parts 9 fault (drop 9 bytes.now)) }
-    ensures left { OnErr result (IsLeft bytes.now device.old device.new) }
-    ensures held { device.new.held ≡ true }
-    ensures port { device.new.port ≡ device.old.port }
-    ensures consistent { OnOk result (IsConsistentDevice P.port_view device.new) }
-    ensures claimed_number { OnOk result (HasClaimedNumber P.port_view device.new) }
-    ensures rest_unchanged { P.rest device.new.port ≡ P.rest device.old.port }
 {
-    let record_end = record_in(bytes, HEADER_SIZE, device)?;
+    let record_end = record_in(bytes, HEADER_SIZE)?;
     let permanent_end = blob_in(bytes, record_end, permanent)?;
     let volatile_end = blob_in(bytes, permanent_end, volatile)?;
     let saved_end = blob_in(bytes, volatile_end, saved)?;
@@ -154,35 +164,23 @@ fn parts_at<P: Port>(
     })
 }
 
-/// Reads the record that begins at a place, and says where it ends. The record itself says where: all bytes are given
-/// to it, and what it refuses as extra isn't its own.
-fn record_in<P: Port>(bytes: &[u8], from: usize, device: &mut Device<P>) -> Result<usize, Malformed>
-    requires held { device.old.held ≡ true }
+/// Says where the record ends that begins at a place. All bytes from there are checked, and what is refused as extra isn't
+/// its own.
+fn record_in(bytes: &[u8], from: usize) -> Result<usize, Malformed>
     requires from { from ≤ length bytes.now }
     requires near { from ≤ 9 }
     ensures part { IfOk result (IsPartAt Record bytes.now from) }
-    ensures ok { IfOk result (λ end. IsRecord (between bytes.now from end) (held_values device.new)) }
     ensures refused { IfErr result (λ fault. IsStopped Record from fault (drop from bytes.now)) }
-    ensures unchanged { OnErr result (device.new ≡ device.old) }
-    ensures held { device.new.held ≡ true }
-    ensures port { device.new.port ≡ device.old.port }
-    ensures consistent { OnOk result (IsConsistentDevice P.port_view device.new) }
-    ensures claimed_number { OnOk result (HasClaimedNumber P.port_view device.new) }
-    ensures rest_unchanged { P.rest device.new.port ≡ P.rest device.old.port }
 {
     device_record::laws::records_are_prefix_free();
     let (_, rest) = bytes.split_at(from);
-    let Err(fault) = load_record(device, rest) else {
+    let Err(fault) = check_record(rest) else {
         return Ok(bytes.len());
     };
     let Why::Extra = fault.why else {
         return Err(moved(from, fault));
     };
-    let count = fault.place as usize;
-    let Ok(()) = load_record(device, &rest[..count]) else {
-        unreachable!()
-    };
-    Ok(from + count)
+    Ok(from + fault.place as usize)
 }
 
 /// Gathers the blob that begins at a place, and says where it ends.

@@ -22,7 +22,7 @@ use Rattle.state_blobs.specs.declared.types.BlobFault.{BlobFault}
 use Rattle.state_blobs.specs.Encodings.{saved_body, with_header, encode_blob, IsBlob}
 use Rattle.state_blobs.specs.Blobs.{Ending, blob}
 use Rattle.state_blobs.specs.Refusals.{FirstDiffersAt, IsRefused, IsCut}
-use Rattle.state_blobs.specs.Assembly.{TellsVolatile, TellsSaved, IsAssembled, IsNoneOrBlob, IsUnfinished, IsNoneOrOfVersion, IsOfOtherVersion, Disagrees, IsFaultFor, IsFault, version_in}
+use Rattle.state_blobs.specs.Assembly.{EncodesVolatile, EncodesSaved, IsAssembled, IsNoneOrBlob, IsUnfinished, IsNoneOrOfVersion, IsOfOtherVersion, Disagrees, IsFaultFor, IsFault, version_in}
 use Rattle.state_blobs.proofs.Bodies.{blob_is_decoded}
 use Rattle.state_blobs.proofs.Refused.{same_fault, whole_or_refused, refused_is_decoded}
 use Rattle.state_blobs.proofs.Decoding.{open_is_cut}
@@ -116,12 +116,12 @@ kept_text v (Some state) is there agrees = saved_text v (Some state) is ∙ ap (
 differs_not : (place : ℕ) (bytes wanted : List ℕ) → bytes ≡ wanted → FirstDiffersAt place bytes wanted → ⊥
 differs_not place bytes wanted same first = first.differs (ap (λ (b : List ℕ). get_or b place 0) same)
 
-decoded_there : (v : TpmParts) (bytes : List ℕ) → TellsSaved bytes v → IsSome v.saved → bytes ≡ encode_blob Saved v
+decoded_there : (v : TpmParts) (bytes : List ℕ) → EncodesSaved bytes v → IsSome v.saved → bytes ≡ encode_blob Saved v
 decoded_there v bytes (inl is) there = is
 decoded_there v bytes (inr (none, gone)) there = let never : IsSome {T = SavedParts} None = subst (λ (s : Option SavedParts). IsSome s) gone there in absurd cc
 
 -- a started TPM's blob that both tell is there, so their banks are its
-banks_of_running : (v w : TpmParts) (bytes : List ℕ) → TellsVolatile bytes v → bytes ≡ encode_blob Volatile w → v.banks ≡ w.banks
+banks_of_running : (v w : TpmParts) (bytes : List ℕ) → EncodesVolatile bytes v → bytes ≡ encode_blob Volatile w → v.banks ≡ w.banks
 banks_of_running v w bytes (inl is) is_too = banks_alike Volatile v w bytes is is_too
 banks_of_running v w bytes (inr (none, off)) is_too = absurd (not_short w (sym is_too ∙ none))
   where

@@ -16,7 +16,7 @@ use Rattle.tpm_core.specs.Banks.{bank_of, kept_bank_of}
 use Rattle.tpm_core.specs.Steps.{IsValid}
 use Rattle.state_blobs.specs.Numbers.{version_of, volatile_length, saved_length}
 use Rattle.state_blobs.specs.Encodings.{counted, saved_body, body_of, encode_blob, slice, IsBlob}
-use Rattle.state_blobs.specs.Assembly.{TellsVolatile, TellsSaved, version_in}
+use Rattle.state_blobs.specs.Assembly.{EncodesVolatile, EncodesSaved, version_in}
 use Rattle.state_blobs.proofs.Magics.{same_version}
 use Rattle.state_blobs.proofs.Bodies.{length-started, length-kept_too}
 
@@ -68,7 +68,7 @@ volatile_flag v = flag_of v.started
     flag_of true = refl
     flag_of false = refl
 
-pub started_read : (v : TpmParts) (bytes : List ℕ) → TellsVolatile bytes v → eqb (get_or bytes 9 0) 1 ≡ v.started
+pub started_read : (v : TpmParts) (bytes : List ℕ) → EncodesVolatile bytes v → eqb (get_or bytes 9 0) 1 ≡ v.started
 started_read v bytes (inl is) = ap (λ (b : List ℕ). eqb (get_or b 9 0) 1) is ∙ ap (λ (n : ℕ). eqb n 1) (volatile_flag v) ∙ flagged v.started
   where
     flagged : (on : Bool) → eqb (cond on 1 0) 1 ≡ on
@@ -84,17 +84,17 @@ saved_flag v = flag_of v.saved
     flag_of None = refl
     flag_of (Some state) = refl
 
-pub saved_read : (v : TpmParts) (bytes : List ℕ) → TellsSaved bytes v → eqb (get_or bytes 9 0) 1 ≡ is_some v.saved
+pub saved_read : (v : TpmParts) (bytes : List ℕ) → EncodesSaved bytes v → eqb (get_or bytes 9 0) 1 ≡ is_some v.saved
 saved_read v bytes (inl is) = ap (λ (b : List ℕ). eqb (get_or b 9 0) 1) is ∙ saved_flag v
 saved_read v bytes (inr (none, gone)) = ap (λ (b : List ℕ). eqb (get_or b 9 0) 1) none ∙ sym (ap (λ (saved : Option SavedParts). is_some saved) gone)
 
 -- ---- a started TPM
 
-pub decoded_running : (v : TpmParts) (bytes : List ℕ) → TellsVolatile bytes v → v.started ≡ true → bytes ≡ encode_blob Volatile v
+pub decoded_running : (v : TpmParts) (bytes : List ℕ) → EncodesVolatile bytes v → v.started ≡ true → bytes ≡ encode_blob Volatile v
 decoded_running v bytes (inl is) on = is
 decoded_running v bytes (inr (none, off)) on = absurd cc
 
-pub volatile_size : (v : TpmParts) (bytes : List ℕ) → IsValid v → TellsVolatile bytes v → v.started ≡ true → length bytes ≡ 9 + volatile_length v.banks
+pub volatile_size : (v : TpmParts) (bytes : List ℕ) → IsValid v → EncodesVolatile bytes v → v.started ≡ true → length bytes ≡ 9 + volatile_length v.banks
 volatile_size v bytes fit exact on = omega (arith, ap length (decoded_running v bytes exact on), length-text Volatile v, length-started Volatile v fit refl on)
 
 -- what stands behind the header of its volatile blob
@@ -102,17 +102,17 @@ running_body : (v : TpmParts) → v.started ≡ true → drop 9 (encode_blob Vol
 unfolding encode_blob
 running_body v on = ap (λ (b : Bool). cond b ((1 ∷ long v.draws) ++ counted v.banks v.counter (λ a. bank_of a v)) (0 ∷ [])) on
 
-pub volatile_read : (v : TpmParts) (bytes : List ℕ) → TellsVolatile bytes v → v.started ≡ true → drop 9 bytes ≡ (1 ∷ long v.draws) ++ counted v.banks v.counter (λ a. bank_of a v)
+pub volatile_read : (v : TpmParts) (bytes : List ℕ) → EncodesVolatile bytes v → v.started ≡ true → drop 9 bytes ≡ (1 ∷ long v.draws) ++ counted v.banks v.counter (λ a. bank_of a v)
 volatile_read v bytes exact on = ap (drop 9) (decoded_running v bytes exact on) ∙ running_body v on
 
-pub draws_read : (v : TpmParts) (bytes : List ℕ) → IsValid v → TellsVolatile bytes v → v.started ≡ true → from_be_bytes w64 (slice bytes 10 8) ≡ v.draws
+pub draws_read : (v : TpmParts) (bytes : List ℕ) → IsValid v → EncodesVolatile bytes v → v.started ≡ true → from_be_bytes w64 (slice bytes 10 8) ≡ v.draws
 draws_read v bytes fit exact on =
     ap (λ (rest : List ℕ). from_be_bytes w64 (take 8 rest)) (sym (drop-drop 1 9 bytes) ∙ ap (drop 1) (volatile_read v bytes exact on))
     ∙ from_be_bytes-to_be_bytes_8 v.draws fit.draws
 
 -- ---- a saved state
 
-pub decoded_saved : (v : TpmParts) (bytes : List ℕ) → TellsSaved bytes v → is_some v.saved ≡ true → bytes ≡ encode_blob Saved v
+pub decoded_saved : (v : TpmParts) (bytes : List ℕ) → EncodesSaved bytes v → is_some v.saved ≡ true → bytes ≡ encode_blob Saved v
 decoded_saved v bytes (inl is) there = is
 decoded_saved v bytes (inr (none, gone)) there = let never : is_some v.saved ≡ false = ap (λ (saved : Option SavedParts). is_some saved) gone in absurd cc
 
@@ -123,18 +123,18 @@ saved_body_read v = refl
 some_is : (saved : Option SavedParts) (state : SavedParts) → saved ≡ Some state → is_some saved ≡ true
 some_is saved state is = ap (λ (s : Option SavedParts). is_some s) is
 
-pub state_read : (v : TpmParts) (state : SavedParts) (bytes : List ℕ) → TellsSaved bytes v → v.saved ≡ Some state → drop 9 bytes ≡ 1 ∷ counted v.banks state.counter (λ a. kept_bank_of a state)
+pub state_read : (v : TpmParts) (state : SavedParts) (bytes : List ℕ) → EncodesSaved bytes v → v.saved ≡ Some state → drop 9 bytes ≡ 1 ∷ counted v.banks state.counter (λ a. kept_bank_of a state)
 state_read v state bytes exact is =
     ap (drop 9) (decoded_saved v bytes exact (some_is v.saved state is)) ∙ saved_body_read v ∙ ap (λ (saved : Option SavedParts). saved_body v.banks saved) is
 
-pub saved_size : (v : TpmParts) (bytes : List ℕ) → IsValid v → TellsSaved bytes v → is_some v.saved ≡ true → length bytes ≡ 9 + saved_length v.banks
+pub saved_size : (v : TpmParts) (bytes : List ℕ) → IsValid v → EncodesSaved bytes v → is_some v.saved ≡ true → length bytes ≡ 9 + saved_length v.banks
 saved_size v bytes fit exact there = omega (arith, ap length (decoded_saved v bytes exact there), length-text Saved v, length-kept_too Saved v fit refl there)
 
 is_none : (saved : Option SavedParts) → is_some saved ≡ false → saved ≡ None
 is_none None off = refl
 is_none (Some state) off = absurd cc
 
-pub no_state_read : (v : TpmParts) (bytes : List ℕ) → TellsSaved bytes v → eqb (get_or bytes 9 0) 1 ≡ false → v.saved ≡ None
+pub no_state_read : (v : TpmParts) (bytes : List ℕ) → EncodesSaved bytes v → eqb (get_or bytes 9 0) 1 ≡ false → v.saved ≡ None
 no_state_read v bytes exact flag = is_none v.saved (sym (saved_read v bytes exact) ∙ flag)
 
 -- states that agree in each field

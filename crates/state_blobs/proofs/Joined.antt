@@ -21,7 +21,7 @@ use Rattle.state_blobs.specs.Numbers.{version_of, saved_length}
 use Rattle.state_blobs.specs.Encodings.{header_of, with_header, counted, saved_body, encode_blob, IsBlob}
 use Rattle.state_blobs.specs.Partial.{bank_in, kept_in, AreValid}
 use Rattle.state_blobs.specs.Refusals.{FirstDiffersAt}
-use Rattle.state_blobs.specs.Assembly.{TellsVolatile, TellsSaved, IsNoneOrBlob, IsOfVersion, IsNoneOrOfVersion, IsAssembled, Disagrees, version_in}
+use Rattle.state_blobs.specs.Assembly.{EncodesVolatile, EncodesSaved, IsNoneOrBlob, IsOfVersion, IsNoneOrOfVersion, IsAssembled, Disagrees, version_in}
 use Rattle.state_blobs.specs.Reading.{running_in, parts_with}
 use Rattle.state_blobs.proofs.Widths.{by_algorithm, in_each, banks_are, kept_are, AreBanks-take, counted_alike, counted_same, kept_of_blank}
 use Rattle.state_blobs.proofs.Bodies.{saved_width, length-kept, stopped_with, zero_seed, fit_stopped}
@@ -71,13 +71,13 @@ saved_alike : (a b c : TpmParts) → c.banks ≡ a.banks → encode_blob Saved c
 unfolding encode_blob
 saved_alike a b c same = ap (λ (banks : Banks). with_header Saved banks (saved_body banks c.saved)) same
 
-tells_volatile : (a b c : TpmParts) (bytes : List ℕ) → b.banks ≡ a.banks → TellsVolatile bytes b → TellsVolatile bytes (joined a b c)
-tells_volatile a b c bytes same (inl is) = inl (is ∙ volatile_alike a b c same)
-tells_volatile a b c bytes same (inr (none, off)) = inr (none, off)
+encodes_volatile : (a b c : TpmParts) (bytes : List ℕ) → b.banks ≡ a.banks → EncodesVolatile bytes b → EncodesVolatile bytes (joined a b c)
+encodes_volatile a b c bytes same (inl is) = inl (is ∙ volatile_alike a b c same)
+encodes_volatile a b c bytes same (inr (none, off)) = inr (none, off)
 
-tells_saved : (a b c : TpmParts) (bytes : List ℕ) → c.banks ≡ a.banks → TellsSaved bytes c → TellsSaved bytes (joined a b c)
-tells_saved a b c bytes same (inl is) = inl (is ∙ saved_alike a b c same)
-tells_saved a b c bytes same (inr (none, gone)) = inr (none, gone)
+encodes_saved : (a b c : TpmParts) (bytes : List ℕ) → c.banks ≡ a.banks → EncodesSaved bytes c → EncodesSaved bytes (joined a b c)
+encodes_saved a b c bytes same (inl is) = inl (is ∙ saved_alike a b c same)
+encodes_saved a b c bytes same (inr (none, gone)) = inr (none, gone)
 
 permanent_alike : (a b c : TpmParts) → encode_blob Permanent a ≡ encode_blob Permanent (joined a b c)
 unfolding encode_blob
@@ -102,7 +102,7 @@ kept_now : (v : TpmParts) (a : Algorithm) → kept_bank_of a (kept v) ≡ take 1
 kept_now v = by_algorithm (λ a. kept_bank_of a (kept v) ≡ take 16 (bank_of a v)) refl refl
 
 -- the fields of its volatile blob
-pub kept_running : (kind : Kind) (f : Fields) (bytes : List ℕ) (v : TpmParts) → kind ≡ Volatile → AreValid f → IsRead kind f bytes → IsValid v → TellsVolatile bytes v → v.started ≡ true
+pub kept_running : (kind : Kind) (f : Fields) (bytes : List ℕ) (v : TpmParts) → kind ≡ Volatile → AreValid f → IsRead kind f bytes → IsValid v → EncodesVolatile bytes v → v.started ≡ true
     → kept_in v.banks f ≡ counted v.banks v.counter (λ a. kept_bank_of a (kept v))
 kept_running kind f bytes v same valid read fit exact on =
     let are = running_fields kind f bytes v same valid read fit exact on in
@@ -111,7 +111,7 @@ kept_running kind f bytes v same valid read fit exact on =
     counted_are v.banks 16 f v.counter (λ a. kept_bank_of a (kept v)) (record { counter_is = are.counter_is; registers = first })
 
 -- those of the blob of a saved state
-pub kept_saved : (kind : Kind) (f : Fields) (bytes : List ℕ) (v : TpmParts) (state : SavedParts) → kind ≡ Saved → AreValid f → IsRead kind f bytes → IsValid v → TellsSaved bytes v → v.saved ≡ Some state → IsKept state
+pub kept_saved : (kind : Kind) (f : Fields) (bytes : List ℕ) (v : TpmParts) (state : SavedParts) → kind ≡ Saved → AreValid f → IsRead kind f bytes → IsValid v → EncodesSaved bytes v → v.saved ≡ Some state → IsKept state
     → kept_in v.banks f ≡ counted v.banks state.counter (λ a. kept_bank_of a state)
 kept_saved kind f bytes v state same valid read fit exact is kept =
     counted_are v.banks 16 f state.counter (λ a. kept_bank_of a state) (saved_fields kind f bytes v state same valid read fit exact is kept)
@@ -180,7 +180,7 @@ module _ (banks : Banks) (volatile saved : List ℕ) (f g : Fields) (are : AreFi
         subst (λ (b : Banks). kept_in b g ≡ counted b state.counter (λ a. kept_bank_of a state)) same (kept_saved Saved g saved z state refl are.state_valid are.state_read fit (inl is) there kept),
       )
 
-  agrees_with : (v z : TpmParts) (state : Option SavedParts) → kept_in banks g ≡ kept_in banks f → IsValid v → TellsVolatile volatile v → IsValid z → TellsSaved saved z → v.started ≡ true → z.saved ≡ state
+  agrees_with : (v z : TpmParts) (state : Option SavedParts) → kept_in banks g ≡ kept_in banks f → IsValid v → EncodesVolatile volatile v → IsValid z → EncodesSaved saved z → v.started ≡ true → z.saved ≡ state
       → IfSome state IsKept → IfSome state (MissingAreBlankInState z.banks) → IfSome state (λ state. state ≡ kept v)
   agrees_with v z None same fit exact fit_too exact_too on is fits blank = tt
   agrees_with v z (Some state) same fit exact fit_too exact_too on is fits blank =
@@ -190,7 +190,7 @@ module _ (banks : Banks) (volatile saved : List ℕ) (f g : Fields) (are : AreFi
       state_agrees v state z.banks fit fits (kept_too.0 ∙ sym running.0) blank
       (subst (λ (b : Banks). counted b state.counter (λ a. kept_bank_of a state) ≡ counted b v.counter (λ a. kept_bank_of a (kept v))) (sym running.0) (sym kept_too.1 ∙ same ∙ running.1))
 
-  pub fields_agree : kept_in banks g ≡ kept_in banks f → (v z : TpmParts) → IsValid v → TellsVolatile volatile v → IsValid z → TellsSaved saved z → v.started ≡ true → IfSome z.saved (λ state. state ≡ kept v)
+  pub fields_agree : kept_in banks g ≡ kept_in banks f → (v z : TpmParts) → IsValid v → EncodesVolatile volatile v → IsValid z → EncodesSaved saved z → v.started ≡ true → IfSome z.saved (λ state. state ≡ kept v)
   fields_agree same v z fit exact fit_too exact_too on = agrees_with v z z.saved same fit exact fit_too exact_too on refl fit_too.kept_fits fit_too.kept_missing
 
   -- where they differ
@@ -230,7 +230,7 @@ module _ (banks : Banks) (volatile saved : List ℕ) (f g : Fields) (are : AreFi
         first = disagrees_with i v.values z.values z.values.saved first v.fit v.spelled started z.fit z.spelled refl some z.fit.kept_fits;
       }
 
-pub none_agrees : (v z : TpmParts) (saved : List ℕ) → eqb (get_or saved 9 0) 1 ≡ false → TellsSaved saved z → IfSome z.saved (λ state. state ≡ kept v)
+pub none_agrees : (v z : TpmParts) (saved : List ℕ) → eqb (get_or saved 9 0) 1 ≡ false → EncodesSaved saved z → IfSome z.saved (λ state. state ≡ kept v)
 none_agrees v z saved flag exact = subst (λ (state : Option SavedParts). IfSome state (λ state. state ≡ kept v)) (sym (no_state_read z saved exact flag)) tt
 
 -- ---- versions
@@ -262,17 +262,17 @@ pub record Decoded (banks : Banks) (P : TpmParts → Type 0) : Type 0 where
 nothing_decoded : (banks : Banks) → IsValid (stopped_with zero_seed banks 0 None)
 nothing_decoded banks = fit_stopped zero_seed banks 0 None refl (omega arith) tt tt
 
-pub volatile_decoded : (banks : Banks) (bytes : List ℕ) → IsNoneOrOfVersion Volatile (version_of banks) bytes → Decoded banks (TellsVolatile bytes)
+pub volatile_decoded : (banks : Banks) (bytes : List ℕ) → IsNoneOrOfVersion Volatile (version_of banks) bytes → Decoded banks (EncodesVolatile bytes)
 volatile_decoded banks bytes (inl none) = record { values = stopped_with zero_seed banks 0 None; fit = nothing_decoded banks; own = refl; exact = inr (none, refl) }
 volatile_decoded banks bytes (inr is) = record { values = is.0.values; fit = is.0.fit; own = sym (banks_read Volatile is.0.values bytes banks is.0.spelled is.1); exact = inl is.0.spelled }
 
-pub saved_decoded : (banks : Banks) (bytes : List ℕ) → IsNoneOrOfVersion Saved (version_of banks) bytes → Decoded banks (TellsSaved bytes)
+pub saved_decoded : (banks : Banks) (bytes : List ℕ) → IsNoneOrOfVersion Saved (version_of banks) bytes → Decoded banks (EncodesSaved bytes)
 saved_decoded banks bytes (inl none) = record { values = stopped_with zero_seed banks 0 None; fit = nothing_decoded banks; own = refl; exact = inr (none, refl) }
 saved_decoded banks bytes (inr is) = record { values = is.0.values; fit = is.0.fit; own = sym (banks_read Saved is.0.values bytes banks is.0.spelled is.1); exact = inl is.0.spelled }
 
 -- what holds of a started TPM and of a saved state that are decoded
 abbrev pub Agree : List ℕ → List ℕ → Type 0
-Agree volatile saved = (v z : TpmParts) → IsValid v → TellsVolatile volatile v → IsValid z → TellsSaved saved z → v.started ≡ true → IfSome z.saved (λ state. state ≡ kept v)
+Agree volatile saved = (v z : TpmParts) → IsValid v → EncodesVolatile volatile v → IsValid z → EncodesSaved saved z → v.started ≡ true → IfSome z.saved (λ state. state ≡ kept v)
 
 -- What is read of three blobs that agree is put together to the one TPM whose blobs they are.
 pub put_together : (permanent volatile saved : List ℕ) (seed : List ℕ) (banks : Banks) (boots : ℕ) (running : Option Running) (state : Option SavedParts) (parts : TpmParts)
@@ -280,7 +280,7 @@ pub put_together : (permanent volatile saved : List ℕ) (seed : List ℕ) (bank
     → ((v : TpmParts) → IsValid v → permanent ≡ encode_blob Permanent v → seed ≡ v.seed)
     → ((v : TpmParts) → IsValid v → permanent ≡ encode_blob Permanent v → banks ≡ v.banks)
     → ((v : TpmParts) → IsValid v → permanent ≡ encode_blob Permanent v → boots ≡ v.boots)
-    → ((v : TpmParts) → IsValid v → TellsVolatile volatile v → running ≡ running_in v) → ((v : TpmParts) → IsValid v → TellsSaved saved v → state ≡ v.saved)
+    → ((v : TpmParts) → IsValid v → EncodesVolatile volatile v → running ≡ running_in v) → ((v : TpmParts) → IsValid v → EncodesSaved saved v → state ≡ v.saved)
     → parts ≡ parts_with seed banks boots running state → IsConsistent parts × (IsValid parts → IsAssembled permanent volatile saved parts)
 put_together permanent volatile saved seed banks boots running state parts p v z agree seed_is banks_are boots_is running_is state_is are =
     let a = p.values in
@@ -294,7 +294,7 @@ put_together permanent volatile saved seed banks boots running state parts p v z
       λ fit. subst (IsAssembled permanent volatile saved) (sym same) (record {
         fit = subst IsValid same fit;
         is_permanent = p.spelled ∙ permanent_alike a b.values c.values;
-        is_volatile = tells_volatile a b.values c.values volatile b.own b.exact;
-        is_saved = tells_saved a b.values c.values saved c.own c.exact;
+        is_volatile = encodes_volatile a b.values c.values volatile b.own b.exact;
+        is_saved = encodes_saved a b.values c.values saved c.own c.exact;
       }),
     )

@@ -16,7 +16,7 @@ use Rattle.tpm_core.specs.Banks.{bank_of, kept_bank_of, MissingAreBlankInState}
 use Rattle.tpm_core.specs.Steps.{IsValid, IsKept}
 use Rattle.state_blobs.specs.Encodings.{counted, encode_blob, slice, slices}
 use Rattle.state_blobs.specs.Running.{SameRunning}
-use Rattle.state_blobs.specs.Assembly.{TellsVolatile, TellsSaved, IsAssembled}
+use Rattle.state_blobs.specs.Assembly.{EncodesVolatile, EncodesSaved, IsAssembled}
 use Rattle.state_blobs.proofs.Magics.{same_version}
 use Rattle.state_blobs.proofs.Widths.{in_each, banks_are, kept_are, counted_same}
 use Rattle.state_blobs.proofs.Fields.{version_encoded, seed_read, boots_read, started_read, saved_read, draws_read, decoded_running, decoded_saved, volatile_read, state_read, same_state}
@@ -34,7 +34,7 @@ seed_once v w fit fit_too same = sym (seed_read v (encode_blob Permanent v) fit 
 pub boots_once : (v w : TpmParts) → IsValid v → IsValid w → encode_blob Permanent v ≡ encode_blob Permanent w → v.boots ≡ w.boots
 boots_once v w fit fit_too same = sym (boots_read v (encode_blob Permanent v) fit refl) ∙ boots_read w (encode_blob Permanent v) fit_too same
 
-same_running_if : (v w : TpmParts) (bytes : List ℕ) → IsValid v → IsValid w → TellsVolatile bytes v → TellsVolatile bytes w → (on : Bool) → v.started ≡ on → w.started ≡ on → SameRunning v w
+same_running_if : (v w : TpmParts) (bytes : List ℕ) → IsValid v → IsValid w → EncodesVolatile bytes v → EncodesVolatile bytes w → (on : Bool) → v.started ≡ on → w.started ≡ on → SameRunning v w
 same_running_if v w bytes fit fit_too exact exact_too true on on_too =
     let own = banks_alike Volatile v w bytes (decoded_running v bytes exact on) (decoded_running w bytes exact_too on_too) in
     let counted_too = subst (λ (banks : Banks). drop 18 bytes ≡ counted banks w.counter (λ a. bank_of a w)) (sym own) (sym (drop-drop 9 9 bytes) ∙ ap (drop 9) (volatile_read w bytes exact_too on_too)) in
@@ -51,7 +51,7 @@ same_running_if v w bytes fit fit_too exact exact_too false off off_too =
     let t = fit_too.stopped off_too in
     record { started = off ∙ sym off_too; draws = s.draws ∙ sym t.draws; counter = s.counter ∙ sym t.counter; registers = λ a. s.blank a ∙ sym (t.blank a) }
 
-pub running_once : (v w : TpmParts) (bytes : List ℕ) → IsValid v → IsValid w → TellsVolatile bytes v → TellsVolatile bytes w → SameRunning v w
+pub running_once : (v w : TpmParts) (bytes : List ℕ) → IsValid v → IsValid w → EncodesVolatile bytes v → EncodesVolatile bytes w → SameRunning v w
 running_once v w bytes fit fit_too exact exact_too = same_running_if v w bytes fit fit_too exact exact_too (eqb (get_or bytes 9 0) 1) (sym (started_read v bytes exact)) (sym (started_read w bytes exact_too))
 
 pub running_text_once : (v w : TpmParts) → IsValid v → IsValid w → encode_blob Volatile v ≡ encode_blob Volatile w → SameRunning v w
@@ -60,7 +60,7 @@ running_text_once v w fit fit_too same = running_once v w (encode_blob Volatile 
 some_is : (saved : Option SavedParts) (state : SavedParts) → saved ≡ Some state → is_some saved ≡ true
 some_is saved state is = ap (λ (s : Option SavedParts). is_some s) is
 
-same_saved_if : (v w : TpmParts) (bytes : List ℕ) (s t : Option SavedParts) → TellsSaved bytes v → TellsSaved bytes w → v.saved ≡ s → w.saved ≡ t → IfSome s IsKept → IfSome t IsKept
+same_saved_if : (v w : TpmParts) (bytes : List ℕ) (s t : Option SavedParts) → EncodesSaved bytes v → EncodesSaved bytes w → v.saved ≡ s → w.saved ≡ t → IfSome s IsKept → IfSome t IsKept
     → IfSome s (MissingAreBlankInState v.banks) → IfSome t (MissingAreBlankInState w.banks) → is_some s ≡ is_some t → s ≡ t
 same_saved_if v w bytes None None exact exact_too p q kept kept_too blank blank_too there = refl
 same_saved_if v w bytes None (Some t) exact exact_too p q kept kept_too blank blank_too there = absurd cc
@@ -73,7 +73,7 @@ same_saved_if v w bytes (Some s) (Some t) exact exact_too p q kept kept_too blan
     ap (λ (state : SavedParts). Some state)
     (same_state s t both.0 (in_each v.banks (λ a. kept_bank_of a s ≡ kept_bank_of a t) both.1 (λ a missing. blank a missing ∙ sym (blank_too a (ap (λ (banks : Banks). has_bank banks a) (sym own) ∙ missing)))))
 
-pub saved_once : (v w : TpmParts) (bytes : List ℕ) → IsValid v → IsValid w → TellsSaved bytes v → TellsSaved bytes w → v.saved ≡ w.saved
+pub saved_once : (v w : TpmParts) (bytes : List ℕ) → IsValid v → IsValid w → EncodesSaved bytes v → EncodesSaved bytes w → v.saved ≡ w.saved
 saved_once v w bytes fit fit_too exact exact_too =
     same_saved_if v w bytes v.saved w.saved exact exact_too refl refl fit.kept_fits fit_too.kept_fits fit.kept_missing fit_too.kept_missing (sym (saved_read v bytes exact) ∙ saved_read w bytes exact_too)
 

@@ -20,7 +20,7 @@ use Rattle.tpm_core.specs.Steps.{IsValid, IsKept}
 use Rattle.state_blobs.specs.declared.body_fields.Fields.{Fields}
 use Rattle.state_blobs.specs.declared.read.Running.{Running}
 use Rattle.state_blobs.specs.Encodings.{counted, slice}
-use Rattle.state_blobs.specs.Assembly.{TellsVolatile, TellsSaved}
+use Rattle.state_blobs.specs.Assembly.{EncodesVolatile, EncodesSaved}
 use Rattle.state_blobs.specs.Partial.{bank_in, counted_in, body_in, AreValid}
 use Rattle.state_blobs.specs.Reading.{running_in}
 use Rattle.state_blobs.specs.Running.{registers_if_there}
@@ -76,7 +76,7 @@ counted_read banks n m f le valid is =
     ap (λ (k : ℕ). take k (counted_in Two n f)) is ∙ counted_prefix banks f.counter n (λ a. take n (bank_in a f)) (first_are n f le valid)
 
 -- a started TPM's
-pub running_body_read : (kind : Kind) (f : Fields) (bytes : List ℕ) (v : TpmParts) → kind ≡ Volatile → AreValid f → IsRead kind f bytes → IsValid v → TellsVolatile bytes v → v.started ≡ true
+pub running_body_read : (kind : Kind) (f : Fields) (bytes : List ℕ) (v : TpmParts) → kind ≡ Volatile → AreValid f → IsRead kind f bytes → IsValid v → EncodesVolatile bytes v → v.started ≡ true
     → (f.flag ∷ long f.draws) ++ counted_in v.banks 24 f ≡ (1 ∷ long v.draws) ++ counted v.banks v.counter (λ a. bank_of a v)
 running_body_read kind f bytes v same valid read fit exact on =
     let size : length bytes - 9 ≡ 9 + (4 + 24 * width v.banks) = omega (arith, volatile_size v bytes fit exact on, volatile_width v.banks) in
@@ -86,13 +86,13 @@ running_body_read kind f bytes v same valid read fit exact on =
     ∙ ap (λ (rest : List ℕ). (f.flag ∷ long f.draws) ++ rest) (counted_read v.banks 24 (4 + 24 * width v.banks) f (omega arith) valid refl))
     ∙ volatile_read v bytes exact on
 
-pub draws_field : (kind : Kind) (f : Fields) (bytes : List ℕ) (v : TpmParts) → kind ≡ Volatile → AreValid f → IsRead kind f bytes → IsValid v → TellsVolatile bytes v → v.started ≡ true → f.draws ≡ v.draws
+pub draws_field : (kind : Kind) (f : Fields) (bytes : List ℕ) (v : TpmParts) → kind ≡ Volatile → AreValid f → IsRead kind f bytes → IsValid v → EncodesVolatile bytes v → v.started ≡ true → f.draws ≡ v.draws
 draws_field kind f bytes v same valid read fit exact on =
     sym (from_be_bytes-to_be_bytes_8 f.draws valid.draws)
     ∙ ap (λ (body : List ℕ). from_be_bytes w64 (take 8 (drop 1 body))) (running_body_read kind f bytes v same valid read fit exact on)
     ∙ from_be_bytes-to_be_bytes_8 v.draws fit.draws
 
-pub running_fields : (kind : Kind) (f : Fields) (bytes : List ℕ) (v : TpmParts) → kind ≡ Volatile → AreValid f → IsRead kind f bytes → IsValid v → TellsVolatile bytes v → v.started ≡ true
+pub running_fields : (kind : Kind) (f : Fields) (bytes : List ℕ) (v : TpmParts) → kind ≡ Volatile → AreValid f → IsRead kind f bytes → IsValid v → EncodesVolatile bytes v → v.started ≡ true
     → AreCounted v.banks 24 f v.counter (λ a. bank_of a v)
 running_fields kind f bytes v same valid read fit exact on =
     let both = counted_same v.banks f.counter v.counter 24 (λ a. take 24 (bank_in a f)) (λ a. bank_of a v) valid.counter fit.counter (first_are 24 f (omega arith) valid) (banks_are v fit)
@@ -100,7 +100,7 @@ running_fields kind f bytes v same valid read fit exact on =
     record { counter_is = both.0; registers = both.1 }
 
 -- a saved state's
-saved_counted : (kind : Kind) (f : Fields) (bytes : List ℕ) (v : TpmParts) (state : SavedParts) → kind ≡ Saved → AreValid f → IsRead kind f bytes → IsValid v → TellsSaved bytes v → v.saved ≡ Some state
+saved_counted : (kind : Kind) (f : Fields) (bytes : List ℕ) (v : TpmParts) (state : SavedParts) → kind ≡ Saved → AreValid f → IsRead kind f bytes → IsValid v → EncodesSaved bytes v → v.saved ≡ Some state
     → f.flag ∷ counted_in v.banks 16 f ≡ 1 ∷ counted v.banks state.counter (λ a. kept_bank_of a state)
 saved_counted kind f bytes v state same valid read fit exact is =
     let there : is_some v.saved ≡ true = ap (λ (s : Option SavedParts). is_some s) is in
@@ -111,7 +111,7 @@ saved_counted kind f bytes v state same valid read fit exact is =
     ∙ ap (λ (rest : List ℕ). f.flag ∷ rest) (counted_read v.banks 16 (4 + 16 * width v.banks) f (omega arith) valid refl))
     ∙ state_read v state bytes exact is
 
-pub saved_fields : (kind : Kind) (f : Fields) (bytes : List ℕ) (v : TpmParts) (state : SavedParts) → kind ≡ Saved → AreValid f → IsRead kind f bytes → IsValid v → TellsSaved bytes v → v.saved ≡ Some state → IsKept state
+pub saved_fields : (kind : Kind) (f : Fields) (bytes : List ℕ) (v : TpmParts) (state : SavedParts) → kind ≡ Saved → AreValid f → IsRead kind f bytes → IsValid v → EncodesSaved bytes v → v.saved ≡ Some state → IsKept state
     → AreCounted v.banks 16 f state.counter (λ a. kept_bank_of a state)
 saved_fields kind f bytes v state same valid read fit exact is kept =
     let both = counted_same v.banks f.counter state.counter 16 (λ a. take 16 (bank_in a f)) (λ a. kept_bank_of a state) valid.counter kept.counter (first_are 16 f (omega arith) valid) (kept_are state kept)
@@ -162,7 +162,7 @@ kept_read state f banks own same blank are a =
     ∙ if_there own a 16 (take 16 (bank_in a f)) (kept_bank_of a state) (are.registers a) (λ missing. blank a missing ∙ kept_blank_is a)
 
 -- a saved state
-pub state_is : (kind : Kind) (f : Fields) (bytes : List ℕ) (v : TpmParts) (banks : Banks) (r : SavedParts) → kind ≡ Saved → AreValid f → IsRead kind f bytes → IsValid v → TellsSaved bytes v → banks ≡ v.banks
+pub state_is : (kind : Kind) (f : Fields) (bytes : List ℕ) (v : TpmParts) (banks : Banks) (r : SavedParts) → kind ≡ Saved → AreValid f → IsRead kind f bytes → IsValid v → EncodesSaved bytes v → banks ≡ v.banks
     → r.counter ≡ f.counter → r.pcr ≡ registers_if_there banks Sha256 16 (take 16 f.pcr) → r.pcr384 ≡ registers_if_there banks Sha384 16 (take 16 f.pcr384)
     → (saved : Option SavedParts) → v.saved ≡ saved → is_some saved ≡ true → IfSome saved IsKept → IfSome saved (MissingAreBlankInState v.banks) → Some r ≡ saved
 state_is kind f bytes v banks r same valid read fit exact own counter pcr pcr384 None is there kept blank = absurd cc
@@ -171,7 +171,7 @@ state_is kind f bytes v banks r same valid read fit exact own counter pcr pcr384
     let registers = kept_read state f banks v.banks own blank are in
     ap (λ (x : SavedParts). Some x) (same_state r state (counter ∙ are.counter_is) (by_algorithm (λ a. kept_bank_of a r ≡ kept_bank_of a state) (pcr ∙ registers Sha256) (pcr384 ∙ registers Sha384)))
 
-pub stopped_read : (v : TpmParts) (bytes : List ℕ) → TellsVolatile bytes v → eqb (get_or bytes 9 0) 1 ≡ false → running_in v ≡ None
+pub stopped_read : (v : TpmParts) (bytes : List ℕ) → EncodesVolatile bytes v → eqb (get_or bytes 9 0) 1 ≡ false → running_in v ≡ None
 stopped_read v bytes exact flag =
     let off : v.started ≡ false = sym (started_read v bytes exact) ∙ flag in
     ap (λ (b : Bool). cond b (Some (record { draws = v.draws; counter = v.counter; pcr = v.pcr; pcr384 = v.pcr384 })) None) off

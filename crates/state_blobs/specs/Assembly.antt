@@ -14,19 +14,19 @@ use Rattle.state_blobs.specs.Encodings.{encode_blob, IsBlob}
 use Rattle.state_blobs.specs.Refusals.{FirstDiffersAt}
 
 -- the blob of what a TPM loses with its power: it may be left out where the TPM isn't started
-abbrev pub TellsVolatile : List ℕ → TpmParts → Type 0
-TellsVolatile bytes tpm = (bytes ≡ encode_blob Volatile tpm) ⊎ ((bytes ≡ []) × (tpm.started ≡ false))
+abbrev pub EncodesVolatile : List ℕ → TpmParts → Type 0
+EncodesVolatile bytes tpm = (bytes ≡ encode_blob Volatile tpm) ⊎ ((bytes ≡ []) × (tpm.started ≡ false))
 
 -- the blob of its saved state: it may be left out where there is none
-abbrev pub TellsSaved : List ℕ → TpmParts → Type 0
-TellsSaved bytes tpm = (bytes ≡ encode_blob Saved tpm) ⊎ ((bytes ≡ []) × (tpm.saved ≡ None))
+abbrev pub EncodesSaved : List ℕ → TpmParts → Type 0
+EncodesSaved bytes tpm = (bytes ≡ encode_blob Saved tpm) ⊎ ((bytes ≡ []) × (tpm.saved ≡ None))
 
 -- The three are the blobs of this TPM.
 pub record IsAssembled (permanent volatile saved : List ℕ) (tpm : TpmParts) : Type 0 where
   pub fit : IsValid tpm
   pub is_permanent : permanent ≡ encode_blob Permanent tpm
-  pub is_volatile : TellsVolatile volatile tpm
-  pub is_saved : TellsSaved saved tpm
+  pub is_volatile : EncodesVolatile volatile tpm
+  pub is_saved : EncodesSaved saved tpm
 
 -- a blob that may be left out, and isn't begun without being whole
 abbrev pub IsNoneOrBlob : Kind → List ℕ → Type 0

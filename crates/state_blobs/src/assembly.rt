@@ -8,7 +8,7 @@ ghost use Rattle.state_blobs.specs.Numbers.{version_of};
 ghost use Rattle.state_blobs.specs.Encodings.{IsBlob};
 ghost use Rattle.state_blobs.specs.Partial.{kept_in, AreValid};
 ghost use Rattle.state_blobs.specs.Refusals.{FirstDiffersAt};
-ghost use Rattle.state_blobs.specs.Assembly.{TellsVolatile, TellsSaved, IsNoneOrBlob, IsUnfinished, IsOfVersion, IsOfOtherVersion, IsNoneOrOfVersion, version_in, version_fault, cut_at, IsAssembled, Disagrees, IsFault};
+ghost use Rattle.state_blobs.specs.Assembly.{EncodesVolatile, EncodesSaved, IsNoneOrBlob, IsUnfinished, IsOfVersion, IsOfOtherVersion, IsNoneOrOfVersion, version_in, version_fault, cut_at, IsAssembled, Disagrees, IsFault};
 ghost use Rattle.state_blobs.specs.Reading.{parts_with};
 ghost use Rattle.vt_base.specs.declared.types.Kind.TheVariants.{Permanent, Volatile, Saved};
 
@@ -23,10 +23,14 @@ use tpm_core::{
 };
 use vt_base::{Kind, Malformed, Why};
 
-/// The TPM whose blobs were gathered, or the first fault: a permanent blob that isn't whole, a volatile one that is
-/// begun and not whole, the same of a saved state, a volatile blob of another version than the permanent one, the same
-/// of a saved state, and a saved state that isn't that of the registers of a started TPM. With an empty `v` the TPM
-/// isn't started, with an empty `z` it has no saved state.
+/// The TPM whose blobs were gathered, or the first of these faults:
+///
+/// - the permanent blob isn't complete;
+/// - the volatile blob is begun and not complete, or the saved one is;
+/// - the volatile blob has another version than the permanent one, or the saved one has;
+/// - the TPM is started, and its registers aren't those of the saved state.
+///
+/// With an empty `v` the TPM isn't started, with an empty `z` it has no saved state.
 pub fn assemble(p: &Gather, v: &Gather, z: &Gather) -> Result<Tpm, BlobFault>
     requires permanent { p.now.kind ≡ Permanent }
     requires volatile { v.now.kind ≡ Volatile }
@@ -138,15 +142,15 @@ fn parts_with(
     }
 }
 
-/// Where the blob of a saved state first differs from the one that the counter and the registers of a started TPM would
-/// have, if there are both and it does.
+/// If the TPM is started and there is a saved state: the first byte in which the saved blob differs from that of the TPM's
+/// counter and registers.
 fn disagreement(banks: Banks, volatile: &Gather, saved: &Gather) -> Option<u32>
     requires kinds { (volatile.now.kind ≡ Volatile) × (saved.now.kind ≡ Saved) }
     requires volatile { IsNoneOrOfVersion Volatile (version_of banks) volatile.now.begun }
     requires saved { IsNoneOrOfVersion Saved (version_of banks) saved.now.begun }
     ensures place { IfSome result (λ place. Disagrees place volatile.now.begun saved.now.begun) }
     ensures there { IfSome result (λ place. IsOfVersion Volatile (version_of banks) volatile.now.begun × IsOfVersion Saved (version_of banks) saved.now.begun) }
-    ensures agrees { IfNone result ((v z : TpmParts) → IsValid v → TellsVolatile volatile.now.begun v → IsValid z → TellsSaved saved.now.begun z
+    ensures agrees { IfNone result ((v z : TpmParts) → IsValid v → EncodesVolatile volatile.now.begun v → IsValid z → EncodesSaved saved.now.begun z
         → v.started ≡ true → IfSome z.saved (λ state. state ≡ kept v)) }
 {
     if !has_values(volatile) || !has_values(saved) {
@@ -163,7 +167,7 @@ fn differing(banks: Banks, volatile: &Gather, saved: &Gather) -> Option<u32>
     requires started { (slice_index volatile.now.begun 9 == 1) ≡ true }
     requires there { (slice_index saved.now.begun 9 == 1) ≡ true }
     ensures place { IfSome result (λ place. Disagrees place volatile.now.begun saved.now.begun) }
-    ensures agrees { IfNone result ((v z : TpmParts) → IsValid v → TellsVolatile volatile.now.begun v → IsValid z → TellsSaved saved.now.begun z
+    ensures agrees { IfNone result ((v z : TpmParts) → IsValid v → EncodesVolatile volatile.now.begun v → IsValid z → EncodesSaved saved.now.begun z
         → v.started ≡ true → IfSome z.saved (λ state. state ≡ kept v)) }
 {
     let i = first_difference(banks, saved.fields(), volatile.fields())?;

@@ -7,7 +7,7 @@ ghost use Rattle.tpm_core.specs.declared.parts.TpmParts.{TpmParts};
 ghost use Rattle.tpm_core.specs.Steps.{IsValid};
 ghost use Rattle.state_blobs.specs.Encodings.{encode_blob, IsBlob};
 ghost use Rattle.state_blobs.specs.Reading.{running_in};
-ghost use Rattle.state_blobs.specs.Assembly.{TellsVolatile, TellsSaved, IsNoneOrBlob};
+ghost use Rattle.state_blobs.specs.Assembly.{EncodesVolatile, EncodesSaved, IsNoneOrBlob};
 ghost use Rattle.vt_base.specs.declared.types.Kind.TheVariants.{Permanent, Volatile, Saved};
 
 use crate::counted::{kept_registers, registers_if_two};
@@ -42,7 +42,7 @@ pub fn permanent_of(gather: &Gather) -> ([u8; SEED_SIZE], Banks, u64)
 pub fn running_of(gather: &Gather) -> Option<Running>
     requires kind { gather.now.kind ≡ Volatile }
     requires blob { IsNoneOrBlob Volatile gather.now.begun }
-    ensures { (v : TpmParts) → IsValid v → TellsVolatile gather.now.begun v → result ≡ running_in v }
+    ensures { (v : TpmParts) → IsValid v → EncodesVolatile gather.now.begun v → result ≡ running_in v }
 {
     if !has_values(gather) {
         return None;
@@ -61,7 +61,7 @@ pub fn running_of(gather: &Gather) -> Option<Running>
 pub fn saved_of(gather: &Gather) -> Option<SavedParts>
     requires kind { gather.now.kind ≡ Saved }
     requires blob { IsNoneOrBlob Saved gather.now.begun }
-    ensures { (v : TpmParts) → IsValid v → TellsSaved gather.now.begun v → result ≡ v.saved }
+    ensures { (v : TpmParts) → IsValid v → EncodesSaved gather.now.begun v → result ≡ v.saved }
 {
     if !has_values(gather) {
         return None;

@@ -8,6 +8,7 @@ invariant-loop-done g l = record {
   untouched : length l.into ≡ 0 → l.wires ≡ l.initial.wires;
   came : Came l.chan (take l.done l.into) (g.W.Wires.traffic l.initial.wires) (g.W.Wires.traffic l.wires);
   unfailed : g.W.Wires.faults l.wires ≡ g.W.Wires.faults l.initial.wires;
+  uncut : g.W.Wires.cuts l.wires ≡ g.W.Wires.cuts l.initial.wires;
 }
 
 abbrev pub decreases-loop-done : goal.decreases-loop-done

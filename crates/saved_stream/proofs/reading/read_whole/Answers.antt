@@ -1,4 +1,4 @@
-use Rattle.std.proofs.Common.{◌≡◌, ◌-◌, ℕ, rules, ap, sym, subst, ◌∙◌, inr}
+use Rattle.std.proofs.Common.{◌≡◌, ◌-◌, ℕ, rules, ap, sym, subst, ◌∙◌}
 use Rattle.vt_base.specs.Numbers.{IsBytes}
 use Rattle.vt_base.specs.declared.types.Malformed.{Malformed}
 use Rattle.state_blobs.specs.Refusals.{length_field}
@@ -20,20 +20,11 @@ returns-then-at-bytes-clause-refused g c =
     let same : length_field c.args.bytes.now ≡ c.in_ok-at.at.end - 9 = sym c.in_ok-length.ensures.length ∙ c.if-length-at.false in
     let made = made_of _ _ _ _ _ _ c.in-Ok.tpm c.in_ok-at.ensures.permanent c.in_ok-at.ensures.volatile c.in_ok-at.ensures.saved c.in-Ok.ensures.ok in
     let fits : IsBytes c.args.bytes.now = search rules in
-    refused_extra c.args.bytes.now c.in_ok-at.at _ _ fits c.in_ok-length.ensures.ok c.in_ok-at.ensures.parts same c.in_ok-at.ensures.device made c.if-at-bytes.true
+    refused_extra c.args.bytes.now c.in_ok-at.at _ _ fits c.in_ok-length.ensures.ok c.in_ok-at.ensures.parts same c.in_ok-at.ensures.parts.device.whole.1 made c.if-at-bytes.true
 
 pub returns-clause-stream : goal.returns-clause-stream
 returns-clause-stream g c =
     let same : length_field c.args.bytes.now ≡ c.in_ok-at.at.end - 9 = sym c.in_ok-length.ensures.length ∙ c.if-length-at.false in
     let made = made_of _ _ _ _ _ _ c.in-Ok.tpm c.in_ok-at.ensures.permanent c.in_ok-at.ensures.volatile c.in_ok-at.ensures.saved c.in-Ok.ensures.ok in
     let fits : IsBytes c.args.bytes.now = search rules in
-    whole_stream c.args.bytes.now c.in_ok-at.at _ _ fits c.in_ok-length.ensures.ok c.in_ok-at.ensures.parts same c.in_ok-at.ensures.device made c.if-at-bytes.false
-
-pub returns-then-length-at-clause-left : goal.returns-then-length-at-clause-left
-returns-then-length-at-clause-left g c = inr (c.in_ok-at.at.permanent, c.in_ok-at.ensures.device)
-
-pub returns-in-Err-clause-left : goal.returns-in-Err-clause-left
-returns-in-Err-clause-left g c = inr (c.in_ok-at.at.permanent, c.in_ok-at.ensures.device)
-
-pub returns-then-at-bytes-clause-left : goal.returns-then-at-bytes-clause-left
-returns-then-at-bytes-clause-left g c = inr (c.in_ok-at.at.permanent, c.in_ok-at.ensures.device)
+    whole_stream c.args.bytes.now c.in_ok-at.at _ _ fits c.in_ok-length.ensures.ok c.in_ok-at.ensures.parts same c.load.ensures.ok made c.if-at-bytes.false
