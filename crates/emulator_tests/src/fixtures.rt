@@ -40,7 +40,7 @@ impl Script {
 }
 
 impl Wires for Script {
-    ghost use Rattle.std.specs.Prelude.{Some, None, false};
+    ghost use Rattle.std.specs.Prelude.{Some, None, false, if◌then◌else◌};
     ghost use Rattle.ctrl_client.specs.Traffic.{over};
 
     ghost link = { λ _. None };
@@ -56,6 +56,8 @@ impl Wires for Script {
     ghost later = { λ schedule. schedule };
 
     ghost traffic = { λ s. Some (record { sent = over s.chan s.sent; received = over s.chan s.came }) };
+
+    ghost cuts = { λ s. if s.was_cut then 1 else 0 };
 
     fn send(&mut self, chan: Chan, bytes: &[u8]) -> Result<(), Failed> {
         self.schedule.call()?;

@@ -65,7 +65,7 @@ if_width n false x y p q = q
 
 -- ---- registers have as many bytes as a digest
 
-length-digest_of : (a : Algorithm) (message : List ℕ) → length (digest_of a message) ≡ digest_size a
+pub length-digest_of : (a : Algorithm) (message : List ℕ) → length (digest_of a message) ≡ digest_size a
 length-digest_of Sha256 message = length-sha256 message
 length-digest_of Sha384 message = length-sha384 message
 

@@ -14,7 +14,7 @@ use Rattle.tpm_core.specs.Reading.{◌>>=◌, take_number, head_at, check_starte
 use Rattle.tpm_core.specs.Steps.{IsInReach}
 
 -- what holds of the value of a step holds of what comes of it
-bind_ok : {A B : Type 0} (P : A → Type 0) (Q : B → Type 0) (r : Result A Refusal) (f : A → Result B Refusal) → IfOk r P → ((x : A) → P x → IfOk (f x) Q) → IfOk (r >>= f) Q
+pub bind_ok : {A B : Type 0} (P : A → Type 0) (Q : B → Type 0) (r : Result A Refusal) (f : A → Result B Refusal) → IfOk r P → ((x : A) → P x → IfOk (f x) Q) → IfOk (r >>= f) Q
 bind_ok P Q (Ok x) f h k = k x h
 bind_ok P Q (Err e) f h k = tt
 
@@ -26,11 +26,11 @@ any : {A : Type 0} (r : Result A Refusal) → IfOk r Any
 any (Ok x) = tt
 any (Err e) = tt
 
-then_ok : {A B : Type 0} (Q : B → Type 0) (r : Result A Refusal) (f : A → Result B Refusal) → ((x : A) → IfOk (f x) Q) → IfOk (r >>= f) Q
+pub then_ok : {A B : Type 0} (Q : B → Type 0) (r : Result A Refusal) (f : A → Result B Refusal) → ((x : A) → IfOk (f x) Q) → IfOk (r >>= f) Q
 then_ok Q (Ok x) f k = k x
 then_ok Q (Err e) f k = tt
 
-if_ok : {A : Type 0} (Q : A → Type 0) (b : Bool) (x y : Result A Refusal) → (b ≡ true → IfOk x Q) → (b ≡ false → IfOk y Q) → IfOk (cond b x y) Q
+pub if_ok : {A : Type 0} (Q : A → Type 0) (b : Bool) (x y : Result A Refusal) → (b ≡ true → IfOk x Q) → (b ≡ false → IfOk y Q) → IfOk (cond b x y) Q
 if_ok Q true x y h k = h refl
 if_ok Q false x y h k = k refl
 

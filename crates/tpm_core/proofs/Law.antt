@@ -8,7 +8,8 @@ use Rattle.tpm_core.specs.declared.command.Mode.TheVariants.{Clear, State}
 use Rattle.tpm_core.specs.declared.command.Command.{Command}
 use Rattle.tpm_core.specs.declared.command.Command.TheVariants.{Startup, Shutdown, GetRandom, PcrRead, PcrExtend}
 use Rattle.tpm_core.specs.Past.{StateChange, booted, drew, values}
-use Rattle.tpm_core.specs.Answers.{Entry, PowerOn, Executed, change_of, extend_change, change_if_read, read_by, with_change, state_changes, values_after, reply_to, answer}
+use Rattle.tpm_core.specs.Answers.{Entry, PowerOn, Executed, change_of, extend_change, change_if_read, read_by, with_change, state_changes, values_after, reply_to, core_answer, more_read_by, reply_to_more, answer}
+use Rattle.tpm_core.specs.MoreCommands.{is_more_command}
 use Rattle.tpm_core.specs.Steps.{IsValid, after, after_change, CanDoIfAny, IsInReach}
 use Rattle.tpm_core.proofs.InReach.{command_reach}
 use Rattle.tpm_core.proofs.Fit.{values-cons, values-nil, fit-after}
@@ -90,9 +91,13 @@ pub values_after-append : (b : TpmParts) (later sooner : List Entry) → IsValid
 unfolding values_after
 values_after-append b later sooner fit = law-back b later sooner fit
 
+core_answer-append : (b : TpmParts) (later sooner : List Entry) (bytes : List ℕ) → IsValid b → core_answer b (later ++ sooner) bytes ≡ core_answer (values_after b sooner) later bytes
+unfolding core_answer
+core_answer-append b later sooner bytes fit = ap (λ (v : TpmParts). reply_to v (read_by v bytes)) (values_after-append b later sooner fit)
+
 pub answer-append : (b : TpmParts) (later sooner : List Entry) (bytes : List ℕ) → IsValid b → answer b (later ++ sooner) bytes ≡ answer (values_after b sooner) later bytes
-unfolding answer
-answer-append b later sooner bytes fit = ap (λ (v : TpmParts). reply_to v (read_by v bytes)) (values_after-append b later sooner fit)
+unfolding answer core_answer
+answer-append b later sooner bytes fit = ap (λ (v : TpmParts). cond (is_more_command bytes) (reply_to_more (more_read_by v bytes)) (reply_to v (read_by v bytes))) (values_after-append b later sooner fit)
 
 pub no_past : (b : TpmParts) → IsValid b → values_after b [] ≡ b
 unfolding values_after state_changes
@@ -113,5 +118,5 @@ values_after-command b bytes fit = values-next b [] (Executed bytes) (fit-back b
 pub values_after-more : (v w b : TpmParts) (past : List Entry) (entry : Entry) → IsValid b → v ≡ values_after b past → w ≡ values_after v (entry ∷ []) → w ≡ values_after b (entry ∷ past)
 values_after-more v w b past entry fit here e = e ∙ ap (λ (x : TpmParts). values_after x (entry ∷ [])) here ∙ sym (values_after-append b (entry ∷ []) past fit)
 
-pub answer-more : (v b : TpmParts) (past : List Entry) (bytes : List ℕ) → IsValid b → v ≡ values_after b past → answer v [] bytes ≡ answer b past bytes
-answer-more v b past bytes fit here = ap (λ (x : TpmParts). answer x [] bytes) here ∙ sym (answer-append b [] past bytes fit)
+pub core_answer-more : (v b : TpmParts) (past : List Entry) (bytes : List ℕ) → IsValid b → v ≡ values_after b past → core_answer v [] bytes ≡ core_answer b past bytes
+core_answer-more v b past bytes fit here = ap (λ (x : TpmParts). core_answer x [] bytes) here ∙ sym (core_answer-append b [] past bytes fit)

@@ -6,5 +6,7 @@ pub mod Bounds
 pub mod Fit
 pub mod Law
 pub mod Run
+pub mod Bodies
+pub mod Unchanged
 pub mod Replies
 pub mod Chosen

@@ -1,6 +1,6 @@
 -- Every reply is a response.
-use Rattle.std.proofs.Common.{◌≡◌, ◌≢◌, ℕ, ◌+◌, ◌*◌, ◌^◌, ◌<◌, ◌≤◌, List, [], ◌∷◌, length, take, Result, Ok, Err, refl, sym, ap, ◌∙◌, arith, min, lit≤, suc, ◌-◌, get_or, inl, inr}
-use Rattle.std.specs.Prelude.{IsOk, IfOk, IsTrue, ◌↔◌}
+use Rattle.std.proofs.Common.{◌≡◌, ◌≢◌, ℕ, Bool, true, false, cond, ◌+◌, ◌*◌, ◌^◌, ◌<◌, ◌≤◌, List, [], ◌∷◌, length, take, Result, Ok, Err, refl, sym, ap, ◌∙◌, arith, min, lit≤, suc, ◌-◌, get_or, inl, inr}
+use Rattle.std.specs.Prelude.{IfOk, IsTrue, ◌↔◌, is_ok}
 use Rattle.std.specs.Int.{w16, w32}
 use Rattle.std.proofs.lemmas.List.{length-take, length-append, get_or_past}
 use Rattle.std.proofs.lemmas.Nat.{from_be_bytes-to_be_bytes_4}
@@ -9,11 +9,13 @@ use Rattle.tpm_frame.specs.Frame.{short, is_response_tag}
 use Rattle.vt_base.specs.Numbers.{big_endian_at}
 use Rattle.tpm_core.specs.declared.parts.TpmParts.{TpmParts}
 use Rattle.tpm_core.specs.declared.refusal.Refusal.{Refusal}
-use Rattle.tpm_core.specs.declared.refusal.Refusal.TheVariants.{BadTag, CommandSize, CommandCode, Initialize, AuthMissing, AuthContext, HandleCut, HandleValue, AuthSize, SessionValue, BadAuth, ParameterCut, ParameterValue, ParameterSize, ParameterHash, Locality}
+use Rattle.tpm_core.specs.declared.refusal.Refusal.TheVariants.{BadTag, CommandSize, CommandCode, Initialize, AuthMissing, AuthContext, HandleCut, HandleValue, AuthSize, SessionValue, BadAuth, ParameterCut, ParameterValue, ParameterSize, ParameterHash, Parameter2Cut, Parameter2Value, Parameter2Hash, Parameter3Cut, Parameter3Value, Parameter3Size, Locality}
 use Rattle.tpm_core.specs.declared.command.Command.{Command}
 use Rattle.tpm_core.specs.declared.command.Command.TheVariants.{Startup, Shutdown, GetRandom, PcrRead, PcrExtend}
 use Rattle.tpm_core.specs.Refusals.{code_of}
-use Rattle.tpm_core.specs.Answers.{with_header, password_session, entry_read, digest_read, random_bytes, block_of, registers_read, response, reply_to, Entry, read_by, values_after, answer}
+use Rattle.tpm_core.specs.Answers.{with_header, password_session, entry_read, digest_read, random_bytes, block_of, registers_read, response, reply_to, Entry, read_by, values_after, more_read_by, reply_to_more, passes, core_answer, answer}
+use Rattle.tpm_core.specs.MoreCommands.{is_more_command}
+use Rattle.tpm_core.proofs.Bodies.{IsShortBody, size_small, more_short}
 use Rattle.std.proofs.Common.{is_some}
 use Rattle.tpm_core.proofs.InReach.{command_reach}
 use Rattle.tpm_core.proofs.Law.{fit-past}
@@ -21,10 +23,8 @@ use Rattle.std.specs.List.{flat_map}
 use Rattle.std.proofs.lemmas.List.Concat.{flat_map-cons}
 use Rattle.std.proofs.lemmas.Bool.{cases_lt}
 use Rattle.tpm_core.specs.declared.algorithm.Algorithm.{Algorithm}
-use Rattle.tpm_core.specs.declared.algorithm.Algorithm.TheVariants.{Sha256, Sha384}
 use Rattle.tpm_core.specs.declared.command.Selection.{Selection}
 use Rattle.tpm_core.specs.declared.selected.Register.{Register}
-use Rattle.tpm_core.specs.Algorithms.{digest_size}
 use Rattle.tpm_core.specs.Banks.{bank_of}
 use Rattle.tpm_core.specs.Selected.{selected, chosen_of, bits_of, registers_of, all_registers}
 use Rattle.tpm_core.proofs.Chosen.{length-registers_of}
@@ -75,11 +75,6 @@ length-all_registers room (s ∷ others) =
       length-take room (selected s.bits),
       length-all_registers (room - length mine) others,
     )
-
--- no digest is longer than this
-size_small : (a : Algorithm) → digest_size a ≤ 64
-size_small Sha256 = omega arith
-size_small Sha384 = omega arith
 
 -- a register has as many bytes as a digest, or none past the last
 register_small : (v : TpmParts) → IsValid v → (a : Algorithm) (i : ℕ) → length (get_or (bank_of a v) i []) ≤ 64
@@ -139,6 +134,12 @@ short_is ParameterCut = (record { head = lit≤ tt; room = lit≤ tt; tag = refl
 short_is ParameterValue = (record { head = lit≤ tt; room = lit≤ tt; tag = refl; size = refl }, refl)
 short_is ParameterSize = (record { head = lit≤ tt; room = lit≤ tt; tag = refl; size = refl }, refl)
 short_is ParameterHash = (record { head = lit≤ tt; room = lit≤ tt; tag = refl; size = refl }, refl)
+short_is Parameter2Cut = (record { head = lit≤ tt; room = lit≤ tt; tag = refl; size = refl }, refl)
+short_is Parameter2Value = (record { head = lit≤ tt; room = lit≤ tt; tag = refl; size = refl }, refl)
+short_is Parameter2Hash = (record { head = lit≤ tt; room = lit≤ tt; tag = refl; size = refl }, refl)
+short_is Parameter3Cut = (record { head = lit≤ tt; room = lit≤ tt; tag = refl; size = refl }, refl)
+short_is Parameter3Value = (record { head = lit≤ tt; room = lit≤ tt; tag = refl; size = refl }, refl)
+short_is Parameter3Size = (record { head = lit≤ tt; room = lit≤ tt; tag = refl; size = refl }, refl)
 short_is Locality = (record { head = lit≤ tt; room = lit≤ tt; tag = refl; size = refl }, refl)
 
 -- no refusal has the code of success or of a cancelled command
@@ -158,6 +159,12 @@ refusal_codes ParameterCut = (λ e. omega arith, λ e. omega arith)
 refusal_codes ParameterValue = (λ e. omega arith, λ e. omega arith)
 refusal_codes ParameterSize = (λ e. omega arith, λ e. omega arith)
 refusal_codes ParameterHash = (λ e. omega arith, λ e. omega arith)
+refusal_codes Parameter2Cut = (λ e. omega arith, λ e. omega arith)
+refusal_codes Parameter2Value = (λ e. omega arith, λ e. omega arith)
+refusal_codes Parameter2Hash = (λ e. omega arith, λ e. omega arith)
+refusal_codes Parameter3Cut = (λ e. omega arith, λ e. omega arith)
+refusal_codes Parameter3Value = (λ e. omega arith, λ e. omega arith)
+refusal_codes Parameter3Size = (λ e. omega arith, λ e. omega arith)
 refusal_codes Locality = (λ e. omega arith, λ e. omega arith)
 
 pub reply_is_response : (v : TpmParts) (read : Result Command Refusal) → IsValid v → IfOk read (IsInReach v.started) → IsResponse (reply_to v read)
@@ -168,17 +175,69 @@ reply_code : (v : TpmParts) (read : Result Command Refusal) → big_endian_at w3
 reply_code v (Ok command) e = let zero_is = sym (response_code v command) ∙ e in absurd cc
 reply_code v (Err refusal) e = (refusal_codes refusal).1 (sym (short_is refusal).1 ∙ e)
 
-pub reply_not_cancelled : (v : TpmParts) (read : Result Command Refusal) → reply_to v read ≢ cancelled
+reply_not_cancelled : (v : TpmParts) (read : Result Command Refusal) → reply_to v read ≢ cancelled
 reply_not_cancelled v read e = reply_code v read (ap (big_endian_at w32 6) e)
 
-pub succeeded_is_read : (v : TpmParts) (read : Result Command Refusal) → (big_endian_at w32 6 (reply_to v read) ≡ 0) ↔ IsOk read
+succeeded_is_read : (v : TpmParts) (read : Result Command Refusal) → (big_endian_at w32 6 (reply_to v read) ≡ 0) ↔ IsTrue (is_ok read)
 succeeded_is_read v (Ok command) = (λ e. refl, λ ok. response_code v command)
 succeeded_is_read v (Err refusal) = (λ e. absurd ((refusal_codes refusal).0 (sym (short_is refusal).1 ∙ e)), λ ok. absurd cc)
 
+-- ---- the commands that change nothing
+
+more_is_response : (read : Result (List ℕ) Refusal) → IfOk read IsShortBody → IsResponse (reply_to_more read)
+more_is_response (Ok body) h = framed_is_response st_no_sessions body refl (omega (arith, h))
+more_is_response (Err refusal) h = (short_is refusal).0
+
+more_code : (body : List ℕ) → big_endian_at w32 6 (with_header st_no_sessions body) ≡ 0
+more_code body = refl
+
+more_not_cancelled : (read : Result (List ℕ) Refusal) → reply_to_more read ≢ cancelled
+more_not_cancelled (Ok body) e = let zero_is = sym (more_code body) ∙ ap (big_endian_at w32 6) e in absurd cc
+more_not_cancelled (Err refusal) e = (refusal_codes refusal).1 (sym (short_is refusal).1 ∙ ap (big_endian_at w32 6) e)
+
+succeeded_is_more : (read : Result (List ℕ) Refusal) → (big_endian_at w32 6 (reply_to_more read) ≡ 0) ↔ IsTrue (is_ok read)
+succeeded_is_more (Ok body) = (λ e. refl, λ ok. more_code body)
+succeeded_is_more (Err refusal) = (λ e. absurd ((refusal_codes refusal).0 (sym (short_is refusal).1 ∙ e)), λ ok. absurd cc)
+
 -- ---- over any past
+
+pub core_answer_is_response : (b : TpmParts) (past : List Entry) (bytes : List ℕ) → IsValid b → IsResponse (core_answer b past bytes)
+unfolding core_answer
+core_answer_is_response b past bytes fit =
+    let v = values_after b past in
+    reply_is_response v (read_by v bytes) (fit-past b past fit) (command_reach v.banks v.started (is_some v.saved) bytes)
+
+if_either : {A : Type 0} (P : A → Type 0) (b : Bool) (x y : A) → P x → P y → P (cond b x y)
+if_either P true x y p q = p
+if_either P false x y p q = q
 
 pub answer_is_response : (b : TpmParts) (past : List Entry) (bytes : List ℕ) → IsValid b → IsResponse (answer b past bytes)
 unfolding answer
 answer_is_response b past bytes fit =
     let v = values_after b past in
-    reply_is_response v (read_by v bytes) (fit-past b past fit) (command_reach v.banks v.started (is_some v.saved) bytes)
+    if_either IsResponse (is_more_command bytes) (reply_to_more (more_read_by v bytes)) (core_answer b past bytes) (more_is_response (more_read_by v bytes) (more_short v.banks v.started bytes)) (core_answer_is_response b past bytes fit)
+
+core_answer_not_cancelled : (b : TpmParts) (past : List Entry) (bytes : List ℕ) → core_answer b past bytes ≢ cancelled
+unfolding core_answer
+core_answer_not_cancelled b past bytes = reply_not_cancelled (values_after b past) (read_by (values_after b past) bytes)
+
+pub answer_not_cancelled : (b : TpmParts) (past : List Entry) (bytes : List ℕ) → answer b past bytes ≢ cancelled
+unfolding answer
+answer_not_cancelled b past bytes =
+    let v = values_after b past in
+    if_either (λ (x : List ℕ). x ≢ cancelled) (is_more_command bytes) (reply_to_more (more_read_by v bytes)) (core_answer b past bytes) (more_not_cancelled (more_read_by v bytes)) (core_answer_not_cancelled b past bytes)
+
+core_answer_succeeded : (b : TpmParts) (past : List Entry) (bytes : List ℕ) → (big_endian_at w32 6 (core_answer b past bytes) ≡ 0) ↔ IsTrue (is_ok (read_by (values_after b past) bytes))
+unfolding core_answer
+core_answer_succeeded b past bytes = succeeded_is_read (values_after b past) (read_by (values_after b past) bytes)
+
+-- one test chooses both
+if_both : (b : Bool) (x y : List ℕ) (s t : Bool) → (big_endian_at w32 6 x ≡ 0) ↔ IsTrue s → (big_endian_at w32 6 y ≡ 0) ↔ IsTrue t → (big_endian_at w32 6 (cond b x y) ≡ 0) ↔ IsTrue (cond b s t)
+if_both true x y s t p q = p
+if_both false x y s t p q = q
+
+pub answer_succeeded : (b : TpmParts) (past : List Entry) (bytes : List ℕ) → (big_endian_at w32 6 (answer b past bytes) ≡ 0) ↔ IsTrue (passes (values_after b past) bytes)
+unfolding answer passes
+answer_succeeded b past bytes =
+    let v = values_after b past in
+    if_both (is_more_command bytes) (reply_to_more (more_read_by v bytes)) (core_answer b past bytes) (is_ok (more_read_by v bytes)) (is_ok (read_by v bytes)) (succeeded_is_more (more_read_by v bytes)) (core_answer_succeeded b past bytes)

@@ -7,7 +7,7 @@ use Rattle.tpm_core.specs.declared.parts.TpmParts.{TpmParts}
 use Rattle.tpm_core.specs.declared.refusal.Refusal.{Refusal}
 use Rattle.tpm_core.specs.declared.command.Command.{Command}
 use Rattle.tpm_core.specs.Reading.{command_at}
-use Rattle.tpm_core.specs.Answers.{Executed, change_if_read, read_by, reply_to, values_after, answer}
+use Rattle.tpm_core.specs.Answers.{Executed, change_if_read, read_by, reply_to, values_after, core_answer}
 use Rattle.tpm_core.specs.Steps.{IsValid, after_change, IsInReach}
 use Rattle.tpm_core.proofs.InReach.{command_reach}
 use Rattle.tpm_core.proofs.Law.{fit-past, no_past, values_after-command}
@@ -25,6 +25,6 @@ executed_is v w bytes read fit e h = h ∙ ap (λ (r : Result Command Refusal). 
 pub stays_fit : (v w : TpmParts) (bytes : List ℕ) → IsValid v → w ≡ values_after v (Executed bytes ∷ []) → IsValid w
 stays_fit v w bytes fit e = subst IsValid (sym e) (fit-past v (Executed bytes ∷ []) fit)
 
-pub answer_is : (v : TpmParts) (bytes : List ℕ) (read : Result Command Refusal) → IsValid v → read ≡ read_by v bytes → reply_to v read ≡ answer v [] bytes
-unfolding answer
-answer_is v bytes read fit e = ap (reply_to v) e ∙ ap (λ (w : TpmParts). reply_to w (read_by w bytes)) (sym (no_past v fit))
+pub core_answer_is : (v : TpmParts) (bytes : List ℕ) (read : Result Command Refusal) → IsValid v → read ≡ read_by v bytes → reply_to v read ≡ core_answer v [] bytes
+unfolding core_answer
+core_answer_is v bytes read fit e = ap (reply_to v) e ∙ ap (λ (w : TpmParts). reply_to w (read_by w bytes)) (sym (no_past v fit))

@@ -1,5 +1,5 @@
 -- What each entry of a history does, and the response to each command.
-use Rattle.std.specs.Prelude.{ℕ, ◌+◌, ◌%◌, ◌^◌, false, List, [], ◌∷◌, ◌++◌, length, take, Option, Some, None, is_some, Result, Ok, Err, ◌==◌, min, if◌then◌else◌, codes, slice_index_or}
+use Rattle.std.specs.Prelude.{ℕ, ◌+◌, ◌%◌, ◌^◌, false, List, [], ◌∷◌, ◌++◌, length, take, Option, Some, None, is_some, Bool, Result, Ok, Err, is_ok, ◌==◌, min, if◌then◌else◌, codes, slice_index_or}
 use Rattle.std.specs.List.{flat_map}
 use Rattle.tpm_core.specs.declared.algorithm.Algorithm.{Algorithm}
 use Rattle.tpm_core.specs.declared.algorithm.Measurement.{Measurement}
@@ -21,6 +21,7 @@ use Rattle.tpm_core.specs.declared.command.Command.TheVariants.{Startup, Shutdow
 use Rattle.tpm_core.specs.Banks.{blank_bank, bank_of, with_banks, state_of}
 use Rattle.tpm_core.specs.Refusals.{code_of}
 use Rattle.tpm_core.specs.Reading.{command_at}
+use Rattle.tpm_core.specs.MoreCommands.{is_more_command, more_at}
 use Rattle.tpm_core.specs.Past.{StateChange, booted, started, shut_down, drew, extended, values}
 
 -- the values when power has come on: only the seed and the saved state stay
@@ -125,6 +126,23 @@ state_changes b (Executed command ∷ past) = with_change (change_if_read (value
 unfoldable pub values_after : TpmParts → List Entry → TpmParts
 values_after b past = values b (state_changes b past)
 
--- the response to a command after a past
+-- the response where Startup, Shutdown, GetRandom, PCR_Read and PCR_Extend alone are known
+unfoldable pub core_answer : TpmParts → List Entry → List ℕ → List ℕ
+core_answer b past command = reply_to (values_after b past) (read_by (values_after b past) command)
+
+-- what SelfTest, GetCapability, GetTestResult or Hash is to a TPM with the values v
+abbrev pub more_read_by : TpmParts → List ℕ → Result (List ℕ) Refusal
+more_read_by v bytes = more_at v.banks v.started bytes
+
+-- the response to what was read
+abbrev pub reply_to_more : Result (List ℕ) Refusal → List ℕ
+reply_to_more (Ok body) = with_header st_no_sessions body
+reply_to_more (Err refusal) = short (code_of refusal)
+
+-- the response to a command after a past: all nine are known
 unfoldable pub answer : TpmParts → List Entry → List ℕ → List ℕ
-answer b past command = reply_to (values_after b past) (read_by (values_after b past) command)
+answer b past command = if is_more_command command then reply_to_more (more_read_by (values_after b past) command) else core_answer b past command
+
+-- whether a command passes each check
+unfoldable pub passes : TpmParts → List ℕ → Bool
+passes v command = if is_more_command command then is_ok (more_read_by v command) else is_ok (read_by v command)

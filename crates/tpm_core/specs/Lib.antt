@@ -3,6 +3,8 @@ pub mod Algorithms
 pub mod Banks
 pub mod Refusals
 pub mod Reading
+pub mod Capabilities
+pub mod MoreCommands
 pub mod Selected
 pub mod Past
 pub mod Answers

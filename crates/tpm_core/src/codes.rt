@@ -55,5 +55,11 @@ pub const HANDLE_1: u32 = 0x100;
 /// What is added for the first parameter: TPM_RC_P and TPM_RC_1.
 pub const PARAMETER_1: u32 = 0x140;
 
+/// What is added for the second parameter.
+pub const PARAMETER_2: u32 = 0x240;
+
+/// What is added for the third parameter.
+pub const PARAMETER_3: u32 = 0x340;
+
 /// What is added for the first session: TPM_RC_S and TPM_RC_1.
 pub const SESSION_1: u32 = 0x900;

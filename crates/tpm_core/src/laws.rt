@@ -1,12 +1,13 @@
 //! Laws of pasts and of answers.
 
-ghost use Rattle.std.specs.Prelude.{◌≡◌, ◌≢◌, ◌↔◌, ℕ, List, [], ◌++◌, take, IsOk};
+ghost use Rattle.std.specs.Prelude.{◌≡◌, ◌≢◌, ◌↔◌, ℕ, List, [], ◌∷◌, ◌++◌, take, IsTrue, true, false};
 ghost use Rattle.std.specs.Int.{w32};
 ghost use Rattle.vt_base.specs.Numbers.{big_endian_at};
 ghost use Rattle.tpm_frame.specs.Frames.{IsFrame};
 ghost use Rattle.tpm_core.specs.declared.command.Selection.{Selection};
 ghost use Rattle.tpm_core.specs.declared.parts.TpmParts.{TpmParts};
-ghost use Rattle.tpm_core.specs.Answers.{Entry, read_by, values_after, answer};
+ghost use Rattle.tpm_core.specs.Answers.{Entry, Executed, more_read_by, reply_to_more, values_after, core_answer, answer, passes};
+ghost use Rattle.tpm_core.specs.MoreCommands.{is_more_command};
 ghost use Rattle.tpm_core.specs.Steps.{IsValid};
 ghost use Rattle.tpm_core.specs.Responses.{IsResponse, cancelled};
 ghost use Rattle.tpm_core.specs.Selected.{all_registers, chosen_of, wanted_of};
@@ -32,10 +33,21 @@ pub fn answers_are_responses()
 
     // The response code is 0 exactly where the command passed each check.
     ensures succeeded { (b : TpmParts) (past : List Entry) (command : List ℕ) →
-        (big_endian_at w32 6 (answer b past command) ≡ 0) ↔ IsOk (read_by (values_after b past) command) }
+        (big_endian_at w32 6 (answer b past command) ≡ 0) ↔ IsTrue (passes (values_after b past) command) }
 {
     tpm_frame::laws::sized_bytes_are_frames();
 }
+
+/// SelfTest, GetCapability, GetTestResult and Hash change nothing, whatever becomes of them; every other command is
+/// answered as by `Tpm::execute`.
+pub fn more_commands_change_nothing()
+    ensures values { (b : TpmParts) (past : List Entry) (command : List ℕ) → is_more_command command ≡ true
+        → values_after b (Executed command ∷ past) ≡ values_after b past }
+    ensures answer { (b : TpmParts) (past : List Entry) (command : List ℕ) → is_more_command command ≡ true
+        → answer b past command ≡ reply_to_more (more_read_by (values_after b past) command) }
+    ensures others { (b : TpmParts) (past : List Entry) (command : List ℕ) → is_more_command command ≡ false
+        → answer b past command ≡ core_answer b past command }
+{}
 
 /// A read reads the first eight of the registers that its maps select, in their order.
 pub fn first_eight_are_read()

@@ -2,7 +2,7 @@
 //! then whether the TPM is started, whether an authorisation is there, the handle, the authorisation, the parameters,
 //! bytes left over, and the locality: an order of our own.
 
-ghost use Rattle.std.specs.Prelude.{◌≡◌, ◌≤◌, ◌<◌, length, drop, IfOk, IfSome};
+ghost use Rattle.std.specs.Prelude.{◌≡◌, ◌≤◌, ◌<◌, ◌==◌, Ok, Err, length, drop, IfOk, IfErr, IfSome};
 ghost use Rattle.std.specs.Int.{w8, w16, w32};
 ghost use Rattle.tpm_core.specs.Reading.{Reads, take_number, head_at, check_started_and_sessions, mode_at, startup_at, shutdown_at, get_random_at, handle_at, authorisation_at, algorithm_at, array_at, digest_at, selection_at, many_at, count_at, pcr_read_at, pcr_extend_at, parameters_at, check_locality, command_at};
 
@@ -26,7 +26,7 @@ const EMPTY_PASSWORD_SIZE: usize = 9;
 
 /// Reads a command from the left; seen as the bytes that are left. After a refusal it is of no more use.
 #[derive(Drop)]
-struct Reader<'a> {
+pub struct Reader<'a> {
     rest: &'a [u8],
 }
 
@@ -38,8 +38,23 @@ impl<'a> Model for Reader<'a> {
     ghost view = { λ r. r.rest.now };
 }
 
-impl Reader<'_> {
-    fn u8(&mut self, cut: Refusal) -> Result<u8, Refusal>
+impl<'a> Reader<'a> {
+    /// Reads from these bytes.
+    pub fn new(bytes: &'a [u8]) -> Reader<'a>
+        ensures { result ≡ bytes.now }
+    {
+        Reader { rest: bytes }
+    }
+
+    /// Whether each byte was read.
+    pub fn is_empty(&self) -> bool
+        ensures { result ≡ (length self.now == 0) }
+    {
+        self.rest.is_empty()
+    }
+
+    /// The next byte, or this refusal where there is none.
+    pub fn u8(&mut self, cut: Refusal) -> Result<u8, Refusal>
         ensures { Reads result self.old self.new (take_number w8 cut) }
     {
         match self.rest {
@@ -51,7 +66,8 @@ impl Reader<'_> {
         }
     }
 
-    fn u16(&mut self, cut: Refusal) -> Result<u16, Refusal>
+    /// The number in the next two bytes, or this refusal where they aren't there.
+    pub fn u16(&mut self, cut: Refusal) -> Result<u16, Refusal>
         ensures { Reads result self.old self.new (take_number w16 cut) }
     {
         if self.rest.len() < 2 {
@@ -63,7 +79,8 @@ impl Reader<'_> {
         Ok(number)
     }
 
-    fn u32(&mut self, cut: Refusal) -> Result<u32, Refusal>
+    /// The number in the next four bytes, or this refusal where they aren't there.
+    pub fn u32(&mut self, cut: Refusal) -> Result<u32, Refusal>
         ensures { Reads result self.old self.new (take_number w32 cut) }
     {
         if self.rest.len() < 4 {
@@ -73,6 +90,20 @@ impl Reader<'_> {
         let (_read, rest) = self.rest.split_at(4);
         self.rest = rest;
         Ok(number)
+    }
+
+    /// So many bytes of the first parameter as they are.
+    #[tactic(auto, unfolding(crate::specs::Reading::array_at))]
+    pub fn bytes(&mut self, count: usize) -> Result<&'a [u8], Refusal>
+        ensures ok { IfOk result (λ bytes. array_at count self.old ≡ Ok (bytes.now, self.new)) }
+        ensures err { IfErr result (λ refusal. array_at count self.old ≡ Err refusal) }
+    {
+        if self.rest.len() < count {
+            return Err(Refusal::ParameterCut);
+        }
+        let (bytes, rest) = self.rest.split_at(count);
+        self.rest = rest;
+        Ok(bytes)
     }
 
     #[tactic(auto, unfolding(crate::specs::Reading::array_at))]
@@ -291,7 +322,8 @@ fn head_at(bytes: &[u8]) -> Result<Head, Refusal>
     }
 }
 
-fn check_started_and_sessions(started: bool, head: Head) -> Result<Head, Refusal>
+/// A start comes first and once, and an extend alone has sessions.
+pub fn check_started_and_sessions(started: bool, head: Head) -> Result<Head, Refusal>
     ensures { result ≡ check_started_and_sessions started head }
 {
     if started == (head.code == STARTUP) {
@@ -334,11 +366,9 @@ pub fn command_at(
     ensures { result ≡ command_at banks started has_saved bytes.now }
 {
     let head = check_started_and_sessions(started, head_at(bytes)?)?;
-    let mut reader = Reader {
-        rest: &bytes[HEADER_SIZE..],
-    };
+    let mut reader = Reader::new(&bytes[HEADER_SIZE..]);
     let command = reader.parameters(banks, has_saved, head.code)?;
-    if !reader.rest.is_empty() {
+    if !reader.is_empty() {
         return Err(Refusal::ParameterSize);
     }
     check_locality(command)

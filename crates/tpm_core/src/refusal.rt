@@ -4,7 +4,7 @@ ghost use Rattle.std.specs.Prelude.{◌≡◌};
 
 use crate::codes::{
     AUTH_CONTEXT, AUTH_MISSING, AUTHSIZE, BAD_AUTH, HANDLE_1, HASH, INITIALIZE, INSUFFICIENT,
-    LOCALITY, PARAMETER_1, SESSION_1, SIZE, VALUE,
+    LOCALITY, PARAMETER_1, PARAMETER_2, PARAMETER_3, SESSION_1, SIZE, VALUE,
 };
 use tpm_frame::{BAD_TAG, COMMAND_CODE, COMMAND_SIZE};
 
@@ -33,14 +33,26 @@ pub enum Refusal {
     SessionValue,
     /// The password isn't empty.
     BadAuth,
-    /// A parameter is cut.
+    /// The first parameter is cut, or one of a command that doesn't tell its parameters apart.
     ParameterCut,
-    /// A parameter has a value that isn't known, or a state that isn't there is to be brought back.
+    /// It has a value that isn't known, or a state that isn't there is to be brought back.
     ParameterValue,
-    /// A list is too long, or bytes are left over.
+    /// It is a list or a message that is too long, or bytes are left over.
     ParameterSize,
-    /// The TPM has no bank of the algorithm.
+    /// The TPM has no bank of its algorithm.
     ParameterHash,
+    /// The second parameter is cut.
+    Parameter2Cut,
+    /// The second parameter has a value that isn't known.
+    Parameter2Value,
+    /// The TPM has no bank of the algorithm that the second parameter names.
+    Parameter2Hash,
+    /// The third parameter is cut.
+    Parameter3Cut,
+    /// The third parameter has a value that isn't known.
+    Parameter3Value,
+    /// Bytes are left over behind the third parameter.
+    Parameter3Size,
     /// The register is closed to this locality.
     Locality,
 }
@@ -68,6 +80,12 @@ impl Refusal {
             Refusal::ParameterValue => VALUE + PARAMETER_1,
             Refusal::ParameterSize => SIZE + PARAMETER_1,
             Refusal::ParameterHash => HASH + PARAMETER_1,
+            Refusal::Parameter2Cut => INSUFFICIENT + PARAMETER_2,
+            Refusal::Parameter2Value => VALUE + PARAMETER_2,
+            Refusal::Parameter2Hash => HASH + PARAMETER_2,
+            Refusal::Parameter3Cut => INSUFFICIENT + PARAMETER_3,
+            Refusal::Parameter3Value => VALUE + PARAMETER_3,
+            Refusal::Parameter3Size => SIZE + PARAMETER_3,
             Refusal::Locality => LOCALITY,
         }
     }

@@ -3,7 +3,7 @@
 ghost use Rattle.tpm_core.specs.declared.parts.TpmParts.{TpmParts};
 ghost use Rattle.std.specs.Prelude.{List, ℕ, ◌≡◌, ◌≤◌, ◌∷◌, [], length};
 ghost use Rattle.vt_base.specs.Buffer.{followed_by_zeros};
-ghost use Rattle.tpm_core.specs.Answers.{Entry, PowerOn, Executed, powered_on, change_of, response, answer, values_after};
+ghost use Rattle.tpm_core.specs.Answers.{Entry, PowerOn, Executed, powered_on, change_of, response, core_answer, values_after};
 ghost use Rattle.tpm_core.specs.Responses.{IsResponse};
 ghost use Rattle.tpm_core.specs.Steps.{after_change, IsConsistent, IsValid, IsInReach};
 
@@ -71,15 +71,15 @@ fn execute(parts: &mut TpmParts, command: &[u8], into: &mut Buf) -> usize
     requires { IsValid parts.old }
     ensures values { parts.new ≡ values_after parts.old (Executed command.now ∷ []) }
     ensures fit { IsValid parts.new }
-    ensures size { result ≡ length (answer parts.old [] command.now) }
-    ensures response { into.new ≡ followed_by_zeros (answer parts.old [] command.now) }
+    ensures size { result ≡ length (core_answer parts.old [] command.now) }
+    ensures response { into.new ≡ followed_by_zeros (core_answer parts.old [] command.now) }
     ensures values_past { (b : TpmParts) (past : List Entry) → IsValid b → parts.old ≡ values_after b past
         → parts.new ≡ values_after b (Executed command.now ∷ past) }
     ensures size_past { (b : TpmParts) (past : List Entry) → IsValid b → parts.old ≡ values_after b past
-        → result ≡ length (answer b past command.now) }
+        → result ≡ length (core_answer b past command.now) }
     ensures response_past { (b : TpmParts) (past : List Entry) → IsValid b → parts.old ≡ values_after b past
-        → into.new ≡ followed_by_zeros (answer b past command.now) }
-    ensures is_response { IsResponse (answer parts.old [] command.now) }
+        → into.new ≡ followed_by_zeros (core_answer b past command.now) }
+    ensures is_response { IsResponse (core_answer parts.old [] command.now) }
 {
     match command_at(parts.banks, parts.started, parts.saved.is_some(), command) {
         Ok(command) => execute_command(parts, command, into),
@@ -164,19 +164,19 @@ impl Tpm {
     /// zeros. A command that fails a check changes nothing, and its response has the code of that check alone.
     pub fn execute(&mut self, command: &[u8], into: &mut Buf) -> usize
         ensures values { self.new ≡ values_after self.old (Executed command.now ∷ []) }
-        ensures size { result ≡ length (answer self.old [] command.now) }
-        ensures response { into.new ≡ followed_by_zeros (answer self.old [] command.now) }
+        ensures size { result ≡ length (core_answer self.old [] command.now) }
+        ensures response { into.new ≡ followed_by_zeros (core_answer self.old [] command.now) }
 
         // Over any past that led here.
         ensures values_past { (b : TpmParts) (past : List Entry) → IsValid b → self.old ≡ values_after b past
             → self.new ≡ values_after b (Executed command.now ∷ past) }
         ensures size_past { (b : TpmParts) (past : List Entry) → IsValid b → self.old ≡ values_after b past
-            → result ≡ length (answer b past command.now) }
+            → result ≡ length (core_answer b past command.now) }
         ensures response_past { (b : TpmParts) (past : List Entry) → IsValid b → self.old ≡ values_after b past
-            → into.new ≡ followed_by_zeros (answer b past command.now) }
+            → into.new ≡ followed_by_zeros (core_answer b past command.now) }
 
-        ensures long { 10 ≤ length (answer self.old [] command.now) }
-        ensures fits { length (answer self.old [] command.now) ≤ 3968 }
+        ensures long { 10 ≤ length (core_answer self.old [] command.now) }
+        ensures fits { length (core_answer self.old [] command.now) ≤ 3968 }
         ensures fit_before { IsValid self.old }
         ensures fit { IsValid self.new }
     {

@@ -10,4 +10,6 @@ mod tpm_core_tests;
 #[cfg(test)]
 mod tpm_frame_tests;
 #[cfg(test)]
+mod tpm_more_tests;
+#[cfg(test)]
 mod two_banks_tests;

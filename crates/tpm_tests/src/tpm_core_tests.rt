@@ -3,6 +3,7 @@
 use std::alloc::{AllocError, Global};
 use std::test::*;
 use tpm_core::*;
+use tpm_more::execute_more;
 use vt_base::Buf;
 
 /// A start, an extend of register 0 by 32 zeros, and a read of it.
@@ -468,7 +469,7 @@ const BOTH_RESTORED: [(&str, &str); 5] = [
 const BOTH_STALE: [(&str, &str); 1] = [("80010000000c000001440001", "80010000000a000001c4")];
 
 /// A TPM with a seed of zeros that power came to once.
-fn powered(banks: Banks) -> Tpm {
+pub(crate) fn powered(banks: Banks) -> Tpm {
     let mut tpm = Tpm::manufacture([0; 32], banks);
     tpm.power_on();
     tpm
@@ -482,12 +483,12 @@ fn answers(alloc: Global, tpm: &mut Tpm, into: &mut Buf, command: &str, response
     let Ok(response) = hex::decode(alloc, response) else {
         return false;
     };
-    let size = tpm.execute(&command, into);
+    let size = execute_more(tpm, &command, into);
     into.bytes().get(..size) == Some(response.as_slice())
 }
 
 /// The first command of a table that the TPM answers otherwise.
-fn wrong<'a>(
+pub(crate) fn wrong<'a>(
     alloc: Global,
     tpm: &mut Tpm,
     table: &[(&'a str, &'a str)],

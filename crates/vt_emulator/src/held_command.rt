@@ -11,6 +11,7 @@ use ctrl_codec::Request;
 use ctrl_model::SUCCESS;
 use tpm_core::Tpm;
 use tpm_frame::{CANCELED, FAILURE, Took, write_short};
+use tpm_more::execute_more;
 use vt_base::Buf;
 
 /// The response of the TPM, if there is one, which then executed the command.
@@ -23,7 +24,7 @@ fn execute(tpm: &mut Option<Tpm>, command: &[u8], into: &mut Buf) -> usize
     ensures within_limit { result ≤ 3968 }
 {
     match tpm {
-        Some(tpm) => tpm.execute(command, into),
+        Some(tpm) => execute_more(tpm, command, into),
         None => write_short(FAILURE, into),
     }
 }

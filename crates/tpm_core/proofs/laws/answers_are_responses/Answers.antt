@@ -1,5 +1,5 @@
-use Rattle.tpm_core.proofs.Replies.{answer_is_response, reply_not_cancelled, succeeded_is_read}
-use Rattle.tpm_core.specs.Answers.{read_by, values_after, answer}
+use Rattle.tpm_core.proofs.Replies.{answer_is_response, answer_not_cancelled, answer_succeeded}
+use Rattle.tpm_core.specs.Answers.{answer}
 use Rattle.tpm_core.proofs.laws.answers_are_responses.Goals as goal
 
 pub returns-clause-response : goal.returns-clause-response
@@ -11,9 +11,7 @@ returns-clause-frame c = λ b past command fit.
     c.sized_bytes_are_frames.ensures (answer b past command) (record { fits = record { least = is.head; most = is.room }; named = is.size })
 
 pub returns-clause-not_cancelled : goal.returns-clause-not_cancelled
-unfolding answer
-returns-clause-not_cancelled c = λ b past command. reply_not_cancelled (values_after b past) (read_by (values_after b past) command)
+returns-clause-not_cancelled c = answer_not_cancelled
 
 pub returns-clause-succeeded : goal.returns-clause-succeeded
-unfolding answer
-returns-clause-succeeded c = λ b past command. succeeded_is_read (values_after b past) (read_by (values_after b past) command)
+returns-clause-succeeded c = answer_succeeded

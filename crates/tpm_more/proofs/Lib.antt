@@ -1,0 +1,4 @@
+pub mod Rising
+pub mod Encoding
+pub mod Pages
+mod WorkedAnswers
