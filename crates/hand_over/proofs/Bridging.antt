@@ -26,7 +26,7 @@ use Rattle.move_codec.specs.declared.message.Message.{Message}
 use Rattle.move_codec.specs.declared.message.Body.{Body}
 use Rattle.move_codec.specs.declared.message.Body.TheVariants as body
 use Rattle.move_core.specs.declared.stage.MoveStage.{MoveStage}
-use Rattle.move_core.specs.declared.stage.MoveStage.TheVariants.{Empty, Running, Offering, Released, Filling, Prepared}
+use Rattle.move_core.specs.declared.stage.MoveStage.TheVariants.{Empty, Running, Draining, Offering, Released, Filling, Prepared}
 use Rattle.move_core.specs.declared.side.Side.TheVariants as side
 use Rattle.move_core.specs.declared.asking.Fetched.{Fetched}
 use Rattle.move_core.specs.declared.answers.Delivered.{Delivered}
@@ -82,6 +82,7 @@ plain size row v answer new link after is same stands said = record {
 top_of : {P : Type 0} (s : MoveStage) (h : HostModel P) (d : EmulatorState) (g : HostState) → (model_of s h d g).top ≡ h.top
 top_of Empty h d g = refl
 top_of Running h d g = refl
+top_of Draining h d g = refl
 top_of (Offering e totals) h d g = refl
 top_of (Released e) h d g = refl
 top_of (Filling e totals part place) h d g = refl
@@ -90,6 +91,7 @@ top_of (Prepared e) h d g = refl
 active_of : {P : Type 0} (s : MoveStage) (h : HostModel P) (d : EmulatorState) (g : HostState) → model.is_active (model_of s h d g).side ≡ sides.is_active s
 active_of Empty h d g = refl
 active_of Running h d g = refl
+active_of Draining h d g = refl
 active_of (Offering e totals) h d g = refl
 active_of (Released e) h d g = refl
 active_of (Filling e totals part place) h d g = refl
@@ -226,6 +228,7 @@ module _ {P Schedule : Type 0} (port_view : P → PortView) (size : PieceSizes) 
       (need_by (epoch == e && nat_lt offset (total_of totals part)) epoch e totals part offset at_stage (λ yes. eqb-true epoch e (and_parts _ _ yes).0) f)
   need_step Empty e part offset at_stage f = over (λ x r. model.on_need h.name size x.side x e part offset r) _ at_stage (idle _ _ (at _ at_stage) refl f)
   need_step Running e part offset at_stage f = over (λ x r. model.on_need h.name size x.side x e part offset r) _ at_stage (idle _ _ (at _ at_stage) refl f)
+  need_step Draining e part offset at_stage f = over (λ x r. model.on_need h.name size x.side x e part offset r) _ at_stage (idle _ _ (at _ at_stage) refl f)
   need_step (Released epoch) e part offset at_stage f = over (λ x r. model.on_need h.name size x.side x e part offset r) _ at_stage (idle _ _ (at _ at_stage) refl f)
   need_step (Filling epoch totals next place) e part offset at_stage f = over (λ x r. model.on_need h.name size x.side x e part offset r) _ at_stage (idle _ _ (at _ at_stage) refl f)
   need_step (Prepared epoch) e part offset at_stage f = over (λ x r. model.on_need h.name size x.side x e part offset r) _ at_stage (idle _ _ (at _ at_stage) refl f)
@@ -260,6 +263,7 @@ module _ {P Schedule : Type 0} (port_view : P → PortView) (size : PieceSizes) 
       over (λ x r. model.on_prepared h.name x.side x e) _ at_stage (tested (epoch == e) _ _ _ _ (at _ at_stage) (λ yes. stands_at _ at_stage) f)
   prepared_step Empty e at_stage f = over (λ x r. model.on_prepared h.name x.side x e) _ at_stage (idle _ _ (at _ at_stage) refl f)
   prepared_step Running e at_stage f = over (λ x r. model.on_prepared h.name x.side x e) _ at_stage (idle _ _ (at _ at_stage) refl f)
+  prepared_step Draining e at_stage f = over (λ x r. model.on_prepared h.name x.side x e) _ at_stage (idle _ _ (at _ at_stage) refl f)
   prepared_step (Filling epoch totals next place) e at_stage f = over (λ x r. model.on_prepared h.name x.side x e) _ at_stage (idle _ _ (at _ at_stage) refl f)
   prepared_step (Prepared epoch) e at_stage f = over (λ x r. model.on_prepared h.name x.side x e) _ at_stage (idle _ _ (at _ at_stage) refl f)
 
@@ -269,6 +273,7 @@ module _ {P Schedule : Type 0} (port_view : P → PortView) (size : PieceSizes) 
       (woken (epoch == e) _ _ _ _ (at _ at_stage) (λ yes d. record { host = refl; quiet = stands.quiet; ready = tt; record_pieces = stands.record_pieces; blob_pieces = stands.blob_pieces }) f)
   commit_step Empty e at_stage f = over (λ x r. model.on_commit x.side x e) _ at_stage (idle _ _ (at _ at_stage) refl f)
   commit_step Running e at_stage f = over (λ x r. model.on_commit x.side x e) _ at_stage (idle _ _ (at _ at_stage) refl f)
+  commit_step Draining e at_stage f = over (λ x r. model.on_commit x.side x e) _ at_stage (idle _ _ (at _ at_stage) refl f)
   commit_step (Offering epoch totals) e at_stage f = over (λ x r. model.on_commit x.side x e) _ at_stage (idle _ _ (at _ at_stage) refl f)
   commit_step (Released epoch) e at_stage f = over (λ x r. model.on_commit x.side x e) _ at_stage (idle _ _ (at _ at_stage) refl f)
   commit_step (Filling epoch totals next place) e at_stage f = over (λ x r. model.on_commit x.side x e) _ at_stage (idle _ _ (at _ at_stage) refl f)
@@ -279,6 +284,7 @@ module _ {P Schedule : Type 0} (port_view : P → PortView) (size : PieceSizes) 
       (woken (epoch == e) _ _ _ _ (at _ at_stage) (λ yes d. record { host = refl; quiet = stands.quiet; ready = tt; record_pieces = stands.record_pieces; blob_pieces = stands.blob_pieces }) f)
   refuse_step Empty e at_stage f = over (λ x r. model.on_refuse x.side x e) _ at_stage (idle _ _ (at _ at_stage) refl f)
   refuse_step Running e at_stage f = over (λ x r. model.on_refuse x.side x e) _ at_stage (idle _ _ (at _ at_stage) refl f)
+  refuse_step Draining e at_stage f = over (λ x r. model.on_refuse x.side x e) _ at_stage (idle _ _ (at _ at_stage) refl f)
   refuse_step (Prepared epoch) e at_stage f = over (λ x r. model.on_refuse x.side x e) _ at_stage (idle _ _ (at _ at_stage) refl f)
   refuse_step (Released epoch) e at_stage f = over (λ x r. model.on_refuse x.side x e) _ at_stage (idle _ _ (at _ at_stage) refl f)
   refuse_step (Filling epoch totals next place) e at_stage f = over (λ x r. model.on_refuse x.side x e) _ at_stage (idle _ _ (at _ at_stage) refl f)
@@ -292,6 +298,7 @@ module _ {P Schedule : Type 0} (port_view : P → PortView) (size : PieceSizes) 
       (tested (epoch == e) _ _ _ _ (at _ at_stage) (λ yes. record { host = refl; quiet = stands.quiet; ready = tt; record_pieces = stands.record_pieces; blob_pieces = stands.blob_pieces }) f)
   abort_step Empty e at_stage f = over (λ x r. model.on_abort x.side x e) _ at_stage (idle _ _ (at _ at_stage) refl f)
   abort_step Running e at_stage f = over (λ x r. model.on_abort x.side x e) _ at_stage (idle _ _ (at _ at_stage) refl f)
+  abort_step Draining e at_stage f = over (λ x r. model.on_abort x.side x e) _ at_stage (idle _ _ (at _ at_stage) refl f)
   abort_step (Offering epoch totals) e at_stage f = over (λ x r. model.on_abort x.side x e) _ at_stage (idle _ _ (at _ at_stage) refl f)
   abort_step (Released epoch) e at_stage f = over (λ x r. model.on_abort x.side x e) _ at_stage (idle _ _ (at _ at_stage) refl f)
 
@@ -486,6 +493,7 @@ module _ {P Schedule : Type 0} (port_view : P → PortView) (size : PieceSizes) 
       f)
   piece_step Empty e part offset bytes at_stage some f = over (λ x r. model.on_piece h.name x.side x e part offset bytes r) _ at_stage (idle _ _ (at _ at_stage) refl f)
   piece_step Running e part offset bytes at_stage some f = over (λ x r. model.on_piece h.name x.side x e part offset bytes r) _ at_stage (idle _ _ (at _ at_stage) refl f)
+  piece_step Draining e part offset bytes at_stage some f = over (λ x r. model.on_piece h.name x.side x e part offset bytes r) _ at_stage (idle _ _ (at _ at_stage) refl f)
   piece_step (Offering epoch totals) e part offset bytes at_stage some f = over (λ x r. model.on_piece h.name x.side x e part offset bytes r) _ at_stage (idle _ _ (at _ at_stage) refl f)
   piece_step (Released epoch) e part offset bytes at_stage some f = over (λ x r. model.on_piece h.name x.side x e part offset bytes r) _ at_stage (idle _ _ (at _ at_stage) refl f)
   piece_step (Prepared epoch) e part offset bytes at_stage some f = over (λ x r. model.on_piece h.name x.side x e part offset bytes r) _ at_stage (idle _ _ (at _ at_stage) refl f)

@@ -10,7 +10,7 @@ use Rattle.move_codec.specs.declared.message.Body.{Body}
 use Rattle.move_codec.specs.declared.message.Body.TheVariants as body
 use Rattle.move_core.specs.declared.answers.Delivered.{Delivered}
 use Rattle.move_core.specs.declared.side.Side.{Side}
-use Rattle.move_core.specs.declared.side.Side.TheVariants.{Empty, Running, Offering, Released, Filling, Prepared}
+use Rattle.move_core.specs.declared.side.Side.TheVariants.{Empty, Running, Draining, Offering, Released, Filling, Prepared}
 use Rattle.move_core.specs.Model.{HostModel}
 use Rattle.move_core.specs.Hosts.{MatchesSide}
 use Rattle.move_core.specs.Requests.{WiresView}
@@ -45,6 +45,7 @@ need_shows : (me : HostName) (size : PieceSizes) (s : Side) (g : HostState) (e :
 need_shows me size (Offering epoch) g e part offset r = by_test (epoch == e && nat_lt offset (total_of g.totals part)) _ _ (model.ignores g) (inr (λ fine. fine))
 need_shows me size Empty g e part offset r = inl refl
 need_shows me size Running g e part offset r = inl refl
+need_shows me size Draining g e part offset r = inl refl
 need_shows me size (Released epoch) g e part offset r = inl refl
 need_shows me size (Filling epoch) g e part offset r = inl refl
 need_shows me size (Prepared epoch) g e part offset r = inl refl
@@ -53,6 +54,7 @@ piece_shows : (me : HostName) (s : Side) (g : HostState) (e : ℕ) (part : Part)
 piece_shows me (Filling epoch) g e part offset bytes r = by_test (epoch == e && model.is_next g part offset (length bytes)) _ _ (model.ignores g) (inr (λ fine. fine))
 piece_shows me Empty g e part offset bytes r = inl refl
 piece_shows me Running g e part offset bytes r = inl refl
+piece_shows me Draining g e part offset bytes r = inl refl
 piece_shows me (Offering epoch) g e part offset bytes r = inl refl
 piece_shows me (Released epoch) g e part offset bytes r = inl refl
 piece_shows me (Prepared epoch) g e part offset bytes r = inl refl

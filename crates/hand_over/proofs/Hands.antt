@@ -27,7 +27,7 @@ use Rattle.move_codec.specs.declared.names.Part.TheVariants.{Record, Permanent, 
 use Rattle.move_codec.specs.declared.message.Message.{Message}
 use Rattle.move_codec.specs.declared.message.Body.TheVariants as body
 use Rattle.move_core.specs.declared.stage.MoveStage.{MoveStage}
-use Rattle.move_core.specs.declared.stage.MoveStage.TheVariants.{Empty, Running, Offering, Released, Filling, Prepared}
+use Rattle.move_core.specs.declared.stage.MoveStage.TheVariants.{Empty, Running, Draining, Offering, Released, Filling, Prepared}
 use Rattle.move_core.specs.declared.side.Side.TheVariants as side
 use Rattle.move_core.specs.declared.answers.Delivered.{Delivered}
 use Rattle.move_core.specs.declared.answers.Delivered.TheVariants as delivers
@@ -90,6 +90,7 @@ piece_none h l (Filling epoch totals Saved place) e part offset bytes =
     (either (nat_lt (place + length bytes) (total_of totals Saved)) _ _ (NeedsNoField l) (record { none = tt }) (record { none = tt })) (record { none = tt })
 piece_none h l Empty e part offset bytes = record { none = tt }
 piece_none h l Running e part offset bytes = record { none = tt }
+piece_none h l Draining e part offset bytes = record { none = tt }
 piece_none h l (Offering epoch totals) e part offset bytes = record { none = tt }
 piece_none h l (Released epoch) e part offset bytes = record { none = tt }
 piece_none h l (Prepared epoch) e part offset bytes = record { none = tt }
@@ -98,6 +99,7 @@ commit_none : {P : Type 0} (h : HostModel P) (l : Link) (s : MoveStage) (e : ℕ
 commit_none h l (Prepared epoch) e = either (epoch == e) _ _ (NeedsNoField l) (record { none = tt }) (record { none = tt })
 commit_none h l Empty e = record { none = tt }
 commit_none h l Running e = record { none = tt }
+commit_none h l Draining e = record { none = tt }
 commit_none h l (Offering epoch totals) e = record { none = tt }
 commit_none h l (Released epoch) e = record { none = tt }
 commit_none h l (Filling epoch totals next place) e = record { none = tt }
@@ -116,6 +118,7 @@ target_none size e parts n x y h l m (CommitComes released side content is) =
 pub side_is : {P : Type 0} (s : MoveStage) (h : HostModel P) (d : EmulatorState) (y : HostState) → model_of s h d y ≡ y → side_of s ≡ y.side
 side_is Empty h d y is = ap (λ (g : HostState). g.side) is
 side_is Running h d y is = ap (λ (g : HostState). g.side) is
+side_is Draining h d y is = ap (λ (g : HostState). g.side) is
 side_is (Offering e totals) h d y is = ap (λ (g : HostState). g.side) is
 side_is (Released e) h d y is = ap (λ (g : HostState). g.side) is
 side_is (Filling e totals part place) h d y is = ap (λ (g : HostState). g.side) is
@@ -143,6 +146,7 @@ piece_fine (Filling epoch totals next at) h d values tpm e part place size fit f
     }
 piece_fine Empty h d values tpm e part place size fit fit_too is = tt
 piece_fine Running h d values tpm e part place size fit fit_too is = tt
+piece_fine Draining h d values tpm e part place size fit fit_too is = tt
 piece_fine (Offering epoch totals) h d values tpm e part place size fit fit_too is = tt
 piece_fine (Released epoch) h d values tpm e part place size fit fit_too is = tt
 piece_fine (Prepared epoch) h d values tpm e part place size fit fit_too is = tt
@@ -166,6 +170,7 @@ source_fields (Offering epoch totals) h l x e is offers ready quiet k =
     record { quiet = quiet; total = subst (λ (o : Option TpmParts). IfSome o (λ t. length (encode_blob k t) < 2 ^ 32)) (sym ready.1) (ready.2 k) }
 source_fields Empty h l x e is offers ready quiet k = absurd (let a = ap (λ (g : HostState). g.side) is ∙ offers in cc)
 source_fields Running h l x e is offers ready quiet k = absurd (let a = ap (λ (g : HostState). g.side) is ∙ offers in cc)
+source_fields Draining h l x e is offers ready quiet k = absurd (let a = ap (λ (g : HostState). g.side) is ∙ offers in cc)
 source_fields (Released epoch) h l x e is offers ready quiet k = absurd (let a = ap (λ (g : HostState). g.side) is ∙ offers in cc)
 source_fields (Filling epoch totals part place) h l x e is offers ready quiet k = absurd (let a = ap (λ (g : HostState). g.side) is ∙ offers in cc)
 source_fields (Prepared epoch) h l x e is offers ready quiet k = absurd (let a = ap (λ (g : HostState). g.side) is ∙ offers in cc)
@@ -183,6 +188,7 @@ need_fine (Offering epoch totals) h l x e parts part place size least most piece
 }
 need_fine Empty h l x e parts part place size least most piece is source ready = tt
 need_fine Running h l x e parts part place size least most piece is source ready = tt
+need_fine Draining h l x e parts part place size least most piece is source ready = tt
 need_fine (Released epoch) h l x e parts part place size least most piece is source ready = tt
 need_fine (Filling epoch totals next at) h l x e parts part place size least most piece is source ready = tt
 need_fine (Prepared epoch) h l x e parts part place size least most piece is source ready = tt
@@ -244,6 +250,7 @@ need_kept {P} {Schedule} h l (Offering epoch totals) e part offset field =
     either (epoch == e && nat_lt offset (total_of totals part)) _ _ (KeepsRow Schedule h l) (gives_kept h l e (total_of totals part) part offset field) (ends_kept h l h _ refl)
 need_kept h l Empty e part offset field = ends_kept h l h _ refl
 need_kept h l Running e part offset field = ends_kept h l h _ refl
+need_kept h l Draining e part offset field = ends_kept h l h _ refl
 need_kept h l (Released epoch) e part offset field = ends_kept h l h _ refl
 need_kept h l (Filling epoch totals next at) e part offset field = ends_kept h l h _ refl
 need_kept h l (Prepared epoch) e part offset field = ends_kept h l h _ refl
@@ -253,6 +260,7 @@ prepared_kept {P} {Schedule} h l (Offering epoch totals) e = either (epoch == e)
 prepared_kept {P} {Schedule} h l (Released epoch) e = either (epoch == e) _ _ (KeepsRow Schedule h l) (ends_kept h l h _ refl) (ends_kept h l h _ refl)
 prepared_kept h l Empty e = ends_kept h l h _ refl
 prepared_kept h l Running e = ends_kept h l h _ refl
+prepared_kept h l Draining e = ends_kept h l h _ refl
 prepared_kept h l (Filling epoch totals next at) e = ends_kept h l h _ refl
 prepared_kept h l (Prepared epoch) e = ends_kept h l h _ refl
 
@@ -371,6 +379,7 @@ piece_stays {P} {Schedule} h (Filling epoch totals Saved place) e part offset by
     (ends_stays h _ (record { stays = refl; same = itself h }))
 piece_stays h Empty e part offset bytes = ends_stays h _ (record { stays = refl; same = itself h })
 piece_stays h Running e part offset bytes = ends_stays h _ (record { stays = refl; same = itself h })
+piece_stays h Draining e part offset bytes = ends_stays h _ (record { stays = refl; same = itself h })
 piece_stays h (Offering epoch totals) e part offset bytes = ends_stays h _ (record { stays = refl; same = itself h })
 piece_stays h (Released epoch) e part offset bytes = ends_stays h _ (record { stays = refl; same = itself h })
 piece_stays h (Prepared epoch) e part offset bytes = ends_stays h _ (record { stays = refl; same = itself h })
@@ -537,6 +546,7 @@ pub prepared_at : {P : Type 0} (s : MoveStage) (h : HostModel P) (d : EmulatorSt
 prepared_at (Prepared epoch) h d y e is at = let a = ap (λ (g : HostState). g.side) is ∙ at in cc
 prepared_at Empty h d y e is at = absurd (let a = ap (λ (g : HostState). g.side) is ∙ at in cc)
 prepared_at Running h d y e is at = absurd (let a = ap (λ (g : HostState). g.side) is ∙ at in cc)
+prepared_at Draining h d y e is at = absurd (let a = ap (λ (g : HostState). g.side) is ∙ at in cc)
 prepared_at (Offering epoch totals) h d y e is at = absurd (let a = ap (λ (g : HostState). g.side) is ∙ at in cc)
 prepared_at (Released epoch) h d y e is at = absurd (let a = ap (λ (g : HostState). g.side) is ∙ at in cc)
 prepared_at (Filling epoch totals part place) h d y e is at = absurd (let a = ap (λ (g : HostState). g.side) is ∙ at in cc)
@@ -545,6 +555,7 @@ pub released_at : {P : Type 0} (s : MoveStage) (h : HostModel P) (d : EmulatorSt
 released_at (Released epoch) h d y e is at = let a = ap (λ (g : HostState). g.side) is ∙ at in cc
 released_at Empty h d y e is at = absurd (let a = ap (λ (g : HostState). g.side) is ∙ at in cc)
 released_at Running h d y e is at = absurd (let a = ap (λ (g : HostState). g.side) is ∙ at in cc)
+released_at Draining h d y e is at = absurd (let a = ap (λ (g : HostState). g.side) is ∙ at in cc)
 released_at (Offering epoch totals) h d y e is at = absurd (let a = ap (λ (g : HostState). g.side) is ∙ at in cc)
 released_at (Prepared epoch) h d y e is at = absurd (let a = ap (λ (g : HostState). g.side) is ∙ at in cc)
 released_at (Filling epoch totals part place) h d y e is at = absurd (let a = ap (λ (g : HostState). g.side) is ∙ at in cc)

@@ -10,7 +10,7 @@ use Rattle.move_codec.specs.declared.message.Message.{Message}
 use Rattle.move_codec.specs.declared.message.Body.TheVariants as body
 use Rattle.move_core.specs.declared.side.Side.TheVariants as side
 use Rattle.move_core.specs.declared.stage.MoveStage.{MoveStage}
-use Rattle.move_core.specs.declared.stage.MoveStage.TheVariants.{Empty, Running, Offering, Released, Filling, Prepared}
+use Rattle.move_core.specs.declared.stage.MoveStage.TheVariants.{Empty, Running, Draining, Offering, Released, Filling, Prepared}
 use Rattle.move_core.specs.declared.answers.Delivered.{Delivered}
 use Rattle.move_core.specs.declared.answers.Delivered.TheVariants as delivers
 use Rattle.move_core.specs.Model.{HostModel}
@@ -20,6 +20,8 @@ use Rattle.move_core.specs.Requests.{WiresView}
 use Rattle.move_core.specs.Table as table
 use Rattle.move_core.specs.Table.{Row, ignored}
 use Rattle.move_core.specs.Table.Row.{Ends as EndsRow}
+use Rattle.move_core.specs.declared.answers.Gave.{Gave}
+use Rattle.move_core.specs.declared.answers.Gave.TheVariants as gave
 use Rattle.move_core.specs.Calls.{Follows, GivesUp, GivesUpAt, said_again}
 use Rattle.hand_over.specs.Host.{HostState, other}
 use Rattle.hand_over.specs.Host as model
@@ -38,31 +40,40 @@ use Rattle.hand_over.proofs.Ceilings.{left_step}
 
 -- ---- a source that offers gives up
 
-pub gives_back : {P : Type 0} (port_view : P → PortView) (h new : HostModel P) (m : Message) → side_of h.stage ≡ side.Offering h.top → GivesUp port_view h (Some m) new
+pub gives_back : {P : Type 0} (port_view : P → PortView) (h new : HostModel P) (m : Message) → side_of h.stage ≡ side.Offering h.top → GivesUp port_view h (gave.Abort m) new
     → (m ≡ table.message_from h.name h.top body.Abort) × Resumed port_view h new
 gives_back {P} port_view h new m offers gives = by h.stage offers gives
   where
-    by : (s : MoveStage) → side_of s ≡ side.Offering h.top → GivesUpAt s port_view h (Some m) new → (m ≡ table.message_from h.name h.top body.Abort) × Resumed port_view h new
+    by : (s : MoveStage) → side_of s ≡ side.Offering h.top → GivesUpAt s port_view h (gave.Abort m) new → (m ≡ table.message_from h.name h.top body.Abort) × Resumed port_view h new
     by (Offering e totals) offers gives =
         let epoch : e ≡ h.top = cc in
         let is : m ≡ table.message_from h.name e body.Abort = let a = gives.0 in cc in
         (is ∙ ap (λ (e : ℕ). table.message_from h.name e body.Abort) epoch, record { rest = gives.1.rest; goes_on = gives.1.device })
     by Empty offers gives = absurd cc
     by Running offers gives = absurd cc
+    by Draining offers gives = absurd cc
     by (Released e) offers gives = absurd cc
     by (Filling e totals part place) offers gives = absurd cc
     by (Prepared e) offers gives = absurd cc
 
-pub gives_none : {P : Type 0} (port_view : P → PortView) (h new : HostModel P) → side_of h.stage ≡ side.Offering h.top → GivesUp port_view h None new → ⊥
-gives_none {P} port_view h new offers gives = by h.stage offers gives
+pub gives_some : {P : Type 0} (port_view : P → PortView) (h new : HostModel P) (answer : Gave) → side_of h.stage ≡ side.Offering h.top → GivesUp port_view h answer new
+    → (m : Message) × (answer ≡ gave.Abort m)
+gives_some {P} port_view h new answer offers gives = by h.stage offers gives
   where
-    by : (s : MoveStage) → side_of s ≡ side.Offering h.top → GivesUpAt s port_view h None new → ⊥
-    by (Offering e totals) offers gives = absurd (let a = gives.0 in cc)
+    by : (s : MoveStage) → side_of s ≡ side.Offering h.top → GivesUpAt s port_view h answer new → (m : Message) × (answer ≡ gave.Abort m)
+    by (Offering e totals) offers gives = (_, gives.0)
     by Empty offers gives = absurd cc
     by Running offers gives = absurd cc
+    by Draining offers gives = absurd cc
     by (Released e) offers gives = absurd cc
     by (Filling e totals part place) offers gives = absurd cc
     by (Prepared e) offers gives = absurd cc
+
+pub gives_not_none : {P : Type 0} (port_view : P → PortView) (h new : HostModel P) → side_of h.stage ≡ side.Offering h.top → GivesUp port_view h gave.NotOffering new → ⊥
+gives_not_none port_view h new offers gives = let is = (gives_some port_view h new gave.NotOffering offers gives).1 in cc
+
+pub gives_not_undrained : {P : Type 0} (port_view : P → PortView) (h new : HostModel P) → side_of h.stage ≡ side.Offering h.top → GivesUp port_view h gave.Undrained new → ⊥
+gives_not_undrained port_view h new offers gives = let is = (gives_some port_view h new gave.Undrained offers gives).1 in cc
 
 -- ---- an Abort comes
 
@@ -79,6 +90,7 @@ aborted_by {P} {Schedule} port_view h new (Prepared epoch) e v after answer f = 
     by false f = (f.0, f.1.host_is)
 aborted_by port_view h new Empty e v after answer f = (f.0, f.1.host_is)
 aborted_by port_view h new Running e v after answer f = (f.0, f.1.host_is)
+aborted_by port_view h new Draining e v after answer f = (f.0, f.1.host_is)
 aborted_by port_view h new (Offering epoch totals) e v after answer f = (f.0, f.1.host_is)
 aborted_by port_view h new (Released epoch) e v after answer f = (f.0, f.1.host_is)
 
@@ -106,7 +118,9 @@ taken_top (Prepared epoch) e top (inl is) at = absurd cc
 taken_top Empty e top (inl is) at = absurd cc
 taken_top Empty e top (inr is) at = absurd cc
 taken_top Running e top (inl is) at = absurd cc
+taken_top Draining e top (inl is) at = absurd cc
 taken_top Running e top (inr is) at = absurd cc
+taken_top Draining e top (inr is) at = absurd cc
 taken_top (Offering epoch totals) e top (inl is) at = absurd cc
 taken_top (Offering epoch totals) e top (inr is) at = absurd cc
 taken_top (Released epoch) e top (inl is) at = absurd cc
@@ -120,7 +134,9 @@ aborted_taken (Prepared epoch) h e top (inl is) at = absurd cc
 aborted_taken Empty h e top (inl is) at = absurd cc
 aborted_taken Empty h e top (inr is) at = absurd cc
 aborted_taken Running h e top (inl is) at = absurd cc
+aborted_taken Draining h e top (inl is) at = absurd cc
 aborted_taken Running h e top (inr is) at = absurd cc
+aborted_taken Draining h e top (inr is) at = absurd cc
 aborted_taken (Offering epoch totals) h e top (inl is) at = absurd cc
 aborted_taken (Offering epoch totals) h e top (inr is) at = absurd cc
 aborted_taken (Released epoch) h e top (inl is) at = absurd cc
@@ -130,6 +146,7 @@ source_top : (s : MoveStage) (e top : ℕ) → side_of s ≡ side.Offering e →
 source_top (Offering epoch totals) e top is at = let same : epoch ≡ e = cc in sym same ∙ at
 source_top Empty e top is at = absurd cc
 source_top Running e top is at = absurd cc
+source_top Draining e top is at = absurd cc
 source_top (Released epoch) e top is at = absurd cc
 source_top (Filling epoch totals part place) e top is at = absurd cc
 source_top (Prepared epoch) e top is at = absurd cc
@@ -168,6 +185,7 @@ not_let_go : (s : MoveStage) (e : ℕ) → side_of s ≡ side.Offering e → has
 not_let_go (Offering epoch totals) e is = refl
 not_let_go Empty e is = absurd cc
 not_let_go Running e is = absurd cc
+not_let_go Draining e is = absurd cc
 not_let_go (Released epoch) e is = absurd cc
 not_let_go (Filling epoch totals part place) e is = absurd cc
 not_let_go (Prepared epoch) e is = absurd cc

@@ -13,13 +13,16 @@ use Rattle.ctrl_model.specs.Link.{Link}
 use Rattle.ctrl_client.specs.Pieces.{HasField, encode_blob_if_any}
 use Rattle.move_codec.specs.declared.message.Message.{Message}
 use Rattle.move_core.specs.declared.stage.MoveStage.{MoveStage}
-use Rattle.move_core.specs.declared.stage.MoveStage.TheVariants.{Empty, Running, Offering, Released, Filling, Prepared}
+use Rattle.move_core.specs.declared.stage.MoveStage.TheVariants.{Empty, Running, Draining, Offering, Released, Filling, Prepared}
 use Rattle.move_core.specs.Model.{HostModel}
 use Rattle.move_core.specs.Requests.{WiresView, GetsTotal, GetsTotals, ThenGets, total_in, before}
 use Rattle.move_core.specs.Table.{message_from}
 use Rattle.move_core.specs.declared.side.Side.TheVariants as side
 use Rattle.move_codec.specs.declared.message.Body.TheVariants as body
-use Rattle.move_core.specs.Calls.{Offers, GivesUp, GivesUpAt, said_again}
+use Rattle.move_core.specs.declared.answers.Offered.{Offered}
+use Rattle.move_core.specs.declared.answers.Offered.TheVariants as answers
+use Rattle.move_core.specs.declared.answers.Gave.TheVariants as gave
+use Rattle.move_core.specs.Calls.{StopsAndOffers, Offers, Drains, GivesUp, GivesUpAt, said_again}
 use Rattle.hand_over.specs.Parts.{PieceSizes, lengths}
 use Rattle.hand_over.specs.Host.{HostState, with_content}
 use Rattle.hand_over.specs.Host as model
@@ -86,16 +89,17 @@ offering_stands size h l g bytes totals t tpm stands top field exact = record {
   blob_pieces = stands.blob_pieces;
 }
 
-pub offered : {P Schedule : Type 0} (port_view : P → PortView) (size : PieceSizes) (h : HostModel P) (w v : WiresView Schedule) (l : Link) (g : HostState) (m : Message) (new : HostModel P)
-    → w.link ≡ Some l → StandsFor size h l g → ((k : Kind) → HasField k l) → (t : TpmParts) → l.emulator.tpm ≡ Some t → Offers port_view h w (Ok m) v new → IsOffer size h new l v.link g m
-offered port_view size h w v l g m new is stands field t tpm offers =
-    let made = offers.1.offers.1 in
-    let device = offers.1.device in
+-- what a stopped host offers stands for what the model offers
+offer_made : {P Schedule : Type 0} (port_view : P → PortView) (size : PieceSizes) (h : HostModel P) (w v : WiresView Schedule) (l : Link) (g : HostState) (m : Message) (new : HostModel P)
+    → w.link ≡ Some l → StandsFor size h l g → ((k : Kind) → HasField k l) → (t : TpmParts) → l.emulator.tpm ≡ Some t → h.stage ≡ Running → StopsAndOffers port_view h w (Ok m) v new → IsOffer size h new l v.link g m
+offer_made port_view size h w v l g m new is stands field t tpm runs made_by =
+    let made = made_by.offers.1 in
+    let device = made_by.device in
     let bytes = encode_record (held_values device) in
     let exact = totals_exact (kind.Permanent ∷ kind.Volatile ∷ kind.Saved ∷ []) w v l (Ok made.totals) is field made.asked in
-    let top = top_running size h l g stands offers.0 in
+    let top = top_running size h l g stands runs in
     let totals : length bytes ∷ made.totals ≡ lengths (port_state bytes l.emulator.tpm) = ap (λ (ts : List ℕ). length bytes ∷ ts) (exact.1 made.totals refl) in
-    let same = offers.1.ends ∙ made.new_is in
+    let same = made_by.ends ∙ made.new_is in
     subst (λ (n : HostModel _). IsOffer size h n l v.link g m) (sym same) (record {
       link = exact.0;
       stands = offering_stands size (record h { device = device }) l g bytes (length bytes ∷ made.totals) t tpm
@@ -103,20 +107,72 @@ offered port_view size h w v l g m new is stands field t tpm offers =
       said = made.said ∙ ap (λ (t : ℕ). message_from h.name (t + 1) (body.Offer (length bytes ∷ made.totals))) top ∙ ap (λ (ts : List ℕ). message_from h.name (g.top + 1) (body.Offer ts)) totals;
     })
   where
-    stands_again : model_of h.stage (record h { device = offers.1.device }) l.emulator g ≡ g
+    stands_again : model_of h.stage (record h { device = made_by.device }) l.emulator g ≡ g
     stands_again =
-        subst (λ (s : MoveStage). model_of s (record h { device = offers.1.device }) l.emulator g ≡ g) (sym offers.0)
-        (subst (λ (s : MoveStage). model_of s h l.emulator g ≡ g) offers.0 stands.host)
+        subst (λ (s : MoveStage). model_of s (record h { device = made_by.device }) l.emulator g ≡ g) (sym runs)
+        (subst (λ (s : MoveStage). model_of s h l.emulator g ≡ g) runs stands.host)
 
     ready_again : IsReady h.stage l.emulator
     ready_again = stands.ready
 
+-- what an offer began, by its kind
+pub offer_is : {P Schedule : Type 0} (port_view : P → PortView) (h : HostModel P) (w v : WiresView Schedule) (o p : Offered) (new : HostModel P) → o ≡ p → Offers port_view h w (Ok o) v new → Offers port_view h w (Ok p) v new
+offer_is port_view h w v o p new same offers = subst (λ (x : Offered). Offers port_view h w (Ok x) v new) same offers
+
+-- the offer of a running host
+pub offered : {P Schedule : Type 0} (port_view : P → PortView) (size : PieceSizes) (h : HostModel P) (w v : WiresView Schedule) (l : Link) (g : HostState) (m : Message) (new : HostModel P)
+    → w.link ≡ Some l → StandsFor size h l g → ((k : Kind) → HasField k l) → (t : TpmParts) → l.emulator.tpm ≡ Some t → Offers port_view h w (Ok (answers.Sent m)) v new → IsOffer size h new l v.link g m
+offered port_view size h w v l g m new is stands field t tpm offers = offer_made port_view size h w v l g m new is stands field t tpm offers.0 offers.1
+
+-- a running host that drains
+pub begins_to_drain : {P Schedule : Type 0} (port_view : P → PortView) (size : PieceSizes) (h : HostModel P) (w v : WiresView Schedule) (l : Link) (g : HostState) (number : ℕ) (new : HostModel P)
+    → StandsFor size h l g → Offers port_view h w (Ok (answers.Draining number)) v new → (v ≡ w) × StandsFor size new l (model.draining g)
+begins_to_drain {P} port_view size h w v l g number new stands offers =
+    let top = top_running size h l g stands offers.0 in (
+      offers.2,
+      subst (λ (n : HostModel P). StandsFor size n l (model.draining g)) (sym offers.4) (record {
+        host = ap (λ (t : ℕ). record g { side = side.Draining; top = t }) top;
+        quiet = stands.quiet;
+        ready = tt;
+        record_pieces = stands.record_pieces;
+        blob_pieces = stands.blob_pieces;
+      }),
+    )
+
+-- a draining host runs again
+runs_on : {P : Type 0} (size : PieceSizes) (h : HostModel P) (l : Link) (g : HostState) → h.stage ≡ Draining → StandsFor size h l g → StandsFor size (record h { stage = Running }) l (model.running g)
+runs_on size h l g drains stands =
+    let host = subst (λ (s : MoveStage). model_of s h l.emulator g ≡ g) drains stands.host in
+    record { host = ap model.running host; quiet = stands.quiet; ready = tt; record_pieces = stands.record_pieces; blob_pieces = stands.blob_pieces }
+
+-- the offer of a host that drained
+pub drained : {P Schedule : Type 0} (port_view : P → PortView) (size : PieceSizes) (h : HostModel P) (w v : WiresView Schedule) (l : Link) (g : HostState) (m : Message) (new : HostModel P)
+    → w.link ≡ Some l → StandsFor size h l g → ((k : Kind) → HasField k l) → (t : TpmParts) → l.emulator.tpm ≡ Some t → h.stage ≡ Draining → Drains port_view h w (Ok (Some m)) v new
+    → IsOffer size h new l v.link (model.running g) m
+drained port_view size h w v l g m new is stands field t tpm drains offers =
+    let made = offer_made port_view size (record h { stage = Running }) w v l (model.running g) m new is (runs_on size h l g drains stands) field t tpm refl offers in
+    record { link = made.link; stands = made.stands; said = made.said }
+
+-- a draining host that is given up
+pub gave_up_draining : {P : Type 0} (port_view : P → PortView) (size : PieceSizes) (h : HostModel P) (l : Link) (g : HostState) (new : HostModel P)
+    → StandsFor size h l g → GivesUp port_view h gave.Undrained new → StandsFor size new l (model.running g)
+gave_up_draining {P} port_view size h l g new stands gives = by h.stage refl gives
+  where
+    by : (s : MoveStage) → h.stage ≡ s → GivesUpAt s port_view h gave.Undrained new → StandsFor size new l (model.running g)
+    by Draining at_stage gives = subst (λ (n : HostModel P). StandsFor size n l (model.running g)) (sym gives.1) (runs_on size h l g at_stage stands)
+    by (Offering e totals) at_stage gives = absurd (let e = gives.0 in cc)
+    by Empty at_stage gives = absurd (let e = gives.0 in cc)
+    by Running at_stage gives = absurd (let e = gives.0 in cc)
+    by (Released e) at_stage gives = absurd (let e = gives.0 in cc)
+    by (Filling e totals part place) at_stage gives = absurd (let e = gives.0 in cc)
+    by (Prepared e) at_stage gives = absurd (let e = gives.0 in cc)
+
 -- an offer that is taken back
 pub gave_up : {P : Type 0} (port_view : P → PortView) (size : PieceSizes) (h : HostModel P) (l : Link) (g : HostState) (m : Message) (new : HostModel P)
-    → StandsFor size h l g → GivesUp port_view h (Some m) new → StandsFor size new l (model.running g) × (m ≡ model.abort_message h.name g)
+    → StandsFor size h l g → GivesUp port_view h (gave.Abort m) new → StandsFor size new l (model.running g) × (m ≡ model.abort_message h.name g)
 gave_up {P} port_view size h l g m new stands gives = by h.stage refl gives
   where
-    by : (s : MoveStage) → h.stage ≡ s → GivesUpAt s port_view h (Some m) new → StandsFor size new l (model.running g) × (m ≡ model.abort_message h.name g)
+    by : (s : MoveStage) → h.stage ≡ s → GivesUpAt s port_view h (gave.Abort m) new → StandsFor size new l (model.running g) × (m ≡ model.abort_message h.name g)
     by (Offering e totals) at_stage gives =
         let host = subst (λ (s : MoveStage). model_of s h l.emulator g ≡ g) at_stage stands.host in
         let top : h.top ≡ g.top = ap (λ (x : HostState). x.top) host in
@@ -133,6 +189,7 @@ gave_up {P} port_view size h l g m new stands gives = by h.stage refl gives
         )
     by Empty at_stage gives = absurd (let e = gives.0 in cc)
     by Running at_stage gives = absurd (let e = gives.0 in cc)
+    by Draining at_stage gives = absurd (let e = gives.0 in cc)
     by (Released e) at_stage gives = absurd (let e = gives.0 in cc)
     by (Filling e totals part place) at_stage gives = absurd (let e = gives.0 in cc)
     by (Prepared e) at_stage gives = absurd (let e = gives.0 in cc)
@@ -149,6 +206,7 @@ said size h l g m stands says = by h.stage refl says
         sym same ∙ ap (λ (n : ℕ). message_from h.name n body.Prepared) epoch
     by Empty at_stage says = absurd cc
     by Running at_stage says = absurd cc
+    by Draining at_stage says = absurd cc
     by (Offering e totals) at_stage says = absurd cc
     by (Released e) at_stage says = absurd cc
     by (Filling e totals part place) at_stage says = absurd cc

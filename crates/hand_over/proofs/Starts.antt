@@ -34,7 +34,7 @@ use Rattle.move_codec.specs.declared.names.Part.TheVariants.{Record, Permanent, 
 use Rattle.move_codec.specs.declared.message.Message.{Message}
 use Rattle.move_codec.specs.declared.message.Body.TheVariants as body
 use Rattle.move_core.specs.declared.stage.MoveStage.{MoveStage}
-use Rattle.move_core.specs.declared.stage.MoveStage.TheVariants.{Empty, Running, Offering, Released, Filling, Prepared}
+use Rattle.move_core.specs.declared.stage.MoveStage.TheVariants.{Empty, Running, Draining, Offering, Released, Filling, Prepared}
 use Rattle.move_core.specs.declared.answers.Delivered.{Delivered}
 use Rattle.move_core.specs.declared.answers.Delivered.TheVariants as delivers
 use Rattle.move_core.specs.Model.{HostModel}
@@ -46,7 +46,9 @@ use Rattle.move_core.specs.Requests.{WiresView, GetsTotals, ThenGets, total_in, 
 use Rattle.move_core.specs.Table as table
 use Rattle.move_core.specs.Table.{Row, ignored, takes_offer}
 use Rattle.move_core.specs.Table.Row.{Stops}
-use Rattle.move_core.specs.Calls.{Follows, EndsIn, HasBytes, IsNeed, Offers}
+use Rattle.move_core.specs.declared.answers.Offered.TheVariants as offer
+use Rattle.move_core.specs.Calls.{Follows, EndsIn, HasBytes, IsNeed, Offers, EpochEnds}
+use Rattle.move_core.specs.Calls.EpochEnds.{Claimed as WhileClaimed, Unclaimed}
 use Rattle.hand_over.specs.Parts.{Parts, PieceSizes, size_for, lengths, nothing}
 use Rattle.move_codec.specs.declared.names.Part.{Part}
 use Rattle.move_core.specs.declared.side.Side.{Side}
@@ -118,6 +120,7 @@ offer_answered n k size e parts y me rests newer good =
 active_is : {P : Type 0} (s : MoveStage) (h : HostModel P) (d : EmulatorState) (y : HostState) → model_of s h d y ≡ y → is_active s ≡ model.is_active y.side
 active_is Empty h d y is = ap (λ (g : HostState). model.is_active g.side) is
 active_is Running h d y is = ap (λ (g : HostState). model.is_active g.side) is
+active_is Draining h d y is = ap (λ (g : HostState). model.is_active g.side) is
 active_is (Offering e totals) h d y is = ap (λ (g : HostState). model.is_active g.side) is
 active_is (Released e) h d y is = ap (λ (g : HostState). model.is_active g.side) is
 active_is (Filling e totals part place) h d y is = ap (λ (g : HostState). model.is_active g.side) is
@@ -126,6 +129,7 @@ active_is (Prepared e) h d y is = ap (λ (g : HostState). model.is_active g.side
 top_is : {P : Type 0} (s : MoveStage) (h : HostModel P) (d : EmulatorState) (y : HostState) → model_of s h d y ≡ y → h.top ≡ y.top
 top_is Empty h d y is = ap (λ (g : HostState). g.top) is
 top_is Running h d y is = ap (λ (g : HostState). g.top) is
+top_is Draining h d y is = ap (λ (g : HostState). g.top) is
 top_is (Offering e totals) h d y is = ap (λ (g : HostState). g.top) is
 top_is (Released e) h d y is = ap (λ (g : HostState). g.top) is
 top_is (Filling e totals part place) h d y is = ap (λ (g : HostState). g.top) is
@@ -186,6 +190,7 @@ pub offering_top : {P : Type 0} (s : MoveStage) (h : HostModel P) (d : EmulatorS
 offering_top (Offering epoch totals) h d x e is at top = let a = ap (λ (g : HostState). g.side) is ∙ at in let same : epoch ≡ e = cc in sym same ∙ top
 offering_top Empty h d x e is at top = absurd (let a = ap (λ (g : HostState). g.side) is ∙ at in cc)
 offering_top Running h d x e is at top = absurd (let a = ap (λ (g : HostState). g.side) is ∙ at in cc)
+offering_top Draining h d x e is at top = absurd (let a = ap (λ (g : HostState). g.side) is ∙ at in cc)
 offering_top (Released epoch) h d x e is at top = absurd (let a = ap (λ (g : HostState). g.side) is ∙ at in cc)
 offering_top (Filling epoch totals part place) h d x e is at top = absurd (let a = ap (λ (g : HostState). g.side) is ∙ at in cc)
 offering_top (Prepared epoch) h d x e is at top = absurd (let a = ap (λ (g : HostState). g.side) is ∙ at in cc)
@@ -350,6 +355,7 @@ bare side top = record { side = side; top = top; content = nothing; totals = [];
 rests_still : (s : MoveStage) → is_active s ≡ false → holds_device s ≡ true
 rests_still Empty rests = refl
 rests_still Running rests = absurd cc
+rests_still Draining rests = absurd cc
 rests_still (Offering epoch totals) rests = refl
 rests_still (Released epoch) rests = refl
 rests_still (Filling epoch totals part place) rests = refl
@@ -375,13 +381,20 @@ module _ {P Schedule : Type 0} (port_view : P → PortView) (sizes : BlobSizes) 
   runs_free : source.device.held ≡ false
   runs_free = source_consistent.matches_side.held ∙ ap holds_device can.runs
 
-  -- the source offers
+  epoch_left : (after : WiresView Schedule) (new : HostModel P) → EpochEnds port_view source w after new → ⊥
+  epoch_left after new (WhileClaimed number most same stops is) = absurd (omega (arith, most, can.not_last))
+  epoch_left after new (Unclaimed s) = absurd (omega (arith, s.offers.1, can.not_last))
+
+  -- the source offers at once, and doesn't drain
+  pub offers_at_once : (number : ℕ) (after : WiresView Schedule) (new : HostModel P) → Offers port_view source w (Ok (offer.Draining number)) after new → ⊥
+  offers_at_once number after new o = not_busy port_view source.device new.device can.device o.3.1
+
+  -- and isn't refused
   pub offer_comes : AreStopped port_view → (f : OfferFault) (after : WiresView Schedule) (new : HostModel P) → Offers port_view source w (Err f) after new → ⊥
   offer_comes law fault.Stopped after new o = absurd (let is = sym (ap is_running can.runs) ∙ o.0 in cc)
-  offer_comes law (fault.NotYet number) after new o = not_busy port_view source.device new.device can.device o.2.1
   offer_comes law fault.Device after new o =
       absurd (let lost = o.1.offers.0 in let fine = not_lost port_view source.device o.1.device law source_consistent.device runs_free can.device o.1.stops in cc)
-  offer_comes law fault.EpochEnd after new o = absurd (omega (arith, o.1.offers.1, can.not_last))
+  offer_comes law fault.EpochEnd after new o = epoch_left after new o.1
   offer_comes law (fault.Wires f) after new o =
       totals_come (kind.Permanent ∷ kind.Volatile ∷ kind.Saved ∷ []) w after can.source_wires.link can.tpm f can.source_wires.is_link all_fields has_tpm
       (omega (arith, can.source_wires.pieces, can.least)) (omega (arith, can.source_wires.pieces, can.most)) can.source_wires.undisturbed o.1.offers.2
@@ -410,7 +423,7 @@ module _ {P Schedule : Type 0} (port_view : P → PortView) (sizes : BlobSizes) 
   target_bare : StandsFor (sizes_at target v.link) (emptied target) can.target_wires.link (bare side.Empty target.top)
   target_bare = record { host = refl; quiet = can.target_wires.quiet; ready = tt; record_pieces = refl; blob_pieces = can.target_wires.pieces }
 
-  module _ (new : HostModel P) (after : WiresView Schedule) (m : Message) (offers : Offers port_view source w (Ok m) after new) (consistent : IsConsistentHost port_view new) (name : new.name ≡ source.name) where
+  module _ (new : HostModel P) (after : WiresView Schedule) (m : Message) (offers : Offers port_view source w (Ok (offer.Sent m)) after new) (consistent : IsConsistentHost port_view new) (name : new.name ≡ source.name) where
     made_is : IsOffer (sizes_at source w.link) source new can.source_wires.link after.link (bare side.Running source.top) m
     made_is = offered port_view (sizes_at source w.link) source w after can.source_wires.link (bare side.Running source.top) m new can.source_wires.is_link source_bare all_fields can.tpm has_tpm offers
 

@@ -26,7 +26,7 @@ use Rattle.move_codec.specs.declared.names.Part.{Part}
 use Rattle.move_codec.specs.declared.names.Part.TheVariants.{Record, Permanent, Volatile, Saved}
 use Rattle.move_core.specs.declared.answers.Delivered.{Delivered}
 use Rattle.move_core.specs.declared.stage.MoveStage.{MoveStage}
-use Rattle.move_core.specs.declared.stage.MoveStage.TheVariants.{Empty, Running, Offering, Released, Filling, Prepared}
+use Rattle.move_core.specs.declared.stage.MoveStage.TheVariants.{Empty, Running, Draining, Offering, Released, Filling, Prepared}
 use Rattle.move_core.specs.Model.{HostModel}
 use Rattle.move_codec.specs.declared.message.Message.{Message}
 use Rattle.move_core.specs.Sides.{is_same, total_of, first_bad, part_after, is_active}
@@ -227,6 +227,7 @@ module _ {P Schedule : Type 0} (port_view : P → PortView) (laws : PieceLaws) (
           need_by (epoch == e && nat_lt offset (total_of totals part)) e totals part offset (λ yes. omega (arith, ltb-true offset (total_of totals part) (and_parts (epoch == e) (nat_lt offset (total_of totals part)) yes).1)) fine_for (λ k. record { quiet = quiet; total = subst (λ (o : Option TpmParts). IfSome o (λ t. length (encode_blob k t) < 2 ^ 32)) (sym ready.1) (ready.2 k) }) f
       need_at Empty ready fine_for f = ignored_good f
       need_at Running ready fine_for f = ignored_good f
+      need_at Draining ready fine_for f = ignored_good f
       need_at (Released epoch) ready fine_for f = ignored_good f
       need_at (Filling epoch totals next place) ready fine_for f = ignored_good f
       need_at (Prepared epoch) ready fine_for f = ignored_good f
@@ -236,6 +237,7 @@ module _ {P Schedule : Type 0} (port_view : P → PortView) (laws : PieceLaws) (
       piece_at (Filling epoch totals next place) ready fine_for f = piece_by (epoch == e && table.is_next totals next place part offset (length bytes)) e totals next place bytes ready.0 some fine_for f
       piece_at Empty ready fine_for f = ignored_good f
       piece_at Running ready fine_for f = ignored_good f
+      piece_at Draining ready fine_for f = ignored_good f
       piece_at (Offering epoch totals) ready fine_for f = ignored_good f
       piece_at (Released epoch) ready fine_for f = ignored_good f
       piece_at (Prepared epoch) ready fine_for f = ignored_good f
@@ -246,6 +248,7 @@ module _ {P Schedule : Type 0} (port_view : P → PortView) (laws : PieceLaws) (
       prepared_at (Released epoch) f = nothing_good (epoch == e) _ (record { good = tt }) f
       prepared_at Empty f = ignored_good f
       prepared_at Running f = ignored_good f
+      prepared_at Draining f = ignored_good f
       prepared_at (Filling epoch totals next place) f = ignored_good f
       prepared_at (Prepared epoch) f = ignored_good f
   message_good s e body.Commit at_stage ready some fine_for f = commit_at h.stage f
@@ -254,6 +257,7 @@ module _ {P Schedule : Type 0} (port_view : P → PortView) (laws : PieceLaws) (
       commit_at (Prepared epoch) f = nothing_good (epoch == e) _ (record { good = tt }) f
       commit_at Empty f = ignored_good f
       commit_at Running f = ignored_good f
+      commit_at Draining f = ignored_good f
       commit_at (Offering epoch totals) f = ignored_good f
       commit_at (Released epoch) f = ignored_good f
       commit_at (Filling epoch totals next place) f = ignored_good f
@@ -264,6 +268,7 @@ module _ {P Schedule : Type 0} (port_view : P → PortView) (laws : PieceLaws) (
       abort_at (Prepared epoch) f = nothing_good (epoch == e) _ (record { good = tt }) f
       abort_at Empty f = ignored_good f
       abort_at Running f = ignored_good f
+      abort_at Draining f = ignored_good f
       abort_at (Offering epoch totals) f = ignored_good f
       abort_at (Released epoch) f = ignored_good f
   message_good s e (body.Refuse why value) at_stage ready some fine_for f = refuse_at h.stage f
@@ -272,6 +277,7 @@ module _ {P Schedule : Type 0} (port_view : P → PortView) (laws : PieceLaws) (
       refuse_at (Offering epoch totals) f = nothing_good (epoch == e) _ (record { good = tt }) f
       refuse_at Empty f = ignored_good f
       refuse_at Running f = ignored_good f
+      refuse_at Draining f = ignored_good f
       refuse_at (Released epoch) f = ignored_good f
       refuse_at (Filling epoch totals next place) f = ignored_good f
       refuse_at (Prepared epoch) f = ignored_good f

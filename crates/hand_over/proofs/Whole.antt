@@ -10,7 +10,7 @@ use Rattle.move_codec.specs.declared.message.Message.{Message}
 use Rattle.move_core.specs.Model.{HostModel}
 use Rattle.move_core.specs.declared.side.Side.TheVariants as side
 use Rattle.move_core.specs.declared.stage.MoveStage.{MoveStage}
-use Rattle.move_core.specs.declared.stage.MoveStage.TheVariants.{Empty, Running, Offering, Released, Filling, Prepared}
+use Rattle.move_core.specs.declared.stage.MoveStage.TheVariants.{Empty, Running, Draining, Offering, Released, Filling, Prepared}
 use Rattle.move_core.specs.Hosts.{IsConsistentHost, IsAtTop}
 use Rattle.move_core.specs.Sides.{side_of, holds_device}
 use Rattle.move_core.specs.Requests.{WiresView}
@@ -109,6 +109,7 @@ aborted_old (Filling epoch totals part place) h e at old = cond-false (epoch == 
 aborted_old (Prepared epoch) h e at old = cond-false (epoch == e) _ _ (ne_eqb epoch e (λ same. absurd (omega (arith, same, at, old))))
 aborted_old Empty h e at old = refl
 aborted_old Running h e at old = refl
+aborted_old Draining h e at old = refl
 aborted_old (Offering epoch totals) h e at old = refl
 aborted_old (Released epoch) h e at old = refl
 

@@ -14,7 +14,7 @@ use Rattle.move_codec.specs.declared.names.Part.TheVariants.{Record, Permanent, 
 use Rattle.move_core.specs.declared.answers.Delivered.{Delivered}
 use Rattle.move_core.specs.Model.{HostModel}
 use Rattle.move_core.specs.declared.stage.MoveStage.{MoveStage}
-use Rattle.move_core.specs.declared.stage.MoveStage.TheVariants.{Empty, Running, Offering, Released, Filling, Prepared}
+use Rattle.move_core.specs.declared.stage.MoveStage.TheVariants.{Empty, Running, Draining, Offering, Released, Filling, Prepared}
 use Rattle.move_core.specs.declared.side.Side.TheVariants as side
 use Rattle.move_core.specs.Sides.{total_of}
 use Rattle.move_core.specs.Requests.{WiresView}
@@ -39,6 +39,7 @@ gathered bytes g = record { record_bytes = bytes; permanent = g.permanent; volat
 abbrev pub model_of : {P : Type 0} → MoveStage → HostModel P → EmulatorState → HostState → HostState
 model_of Empty h d g = record g { side = side.Empty; top = h.top }
 model_of Running h d g = record g { side = side.Running; top = h.top }
+model_of Draining h d g = record g { side = side.Draining; top = h.top }
 model_of (Offering e totals) h d g = record g { side = side.Offering e; top = h.top; content = port_state h.record_bytes d.tpm; totals = totals }
 model_of (Released e) h d g = record g { side = side.Released e; top = h.top }
 model_of (Filling e totals part place) h d g = record { side = side.Filling e; top = h.top; content = gathered h.record_bytes d.gathers; totals = totals; next = part; place = place }

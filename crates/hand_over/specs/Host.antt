@@ -12,7 +12,7 @@ use Rattle.move_codec.specs.declared.message.Message.{Message}
 use Rattle.move_codec.specs.declared.message.Body.{Body}
 use Rattle.move_codec.specs.declared.message.Body.TheVariants as body
 use Rattle.move_core.specs.declared.side.Side.{Side}
-use Rattle.move_core.specs.declared.side.Side.TheVariants.{Empty, Running, Offering, Released, Filling, Prepared}
+use Rattle.move_core.specs.declared.side.Side.TheVariants.{Empty, Running, Draining, Offering, Released, Filling, Prepared}
 use Rattle.ctrl_client.specs.declared.fault.ClientFault.{ClientFault}
 use Rattle.move_core.specs.declared.answers.Delivered.{Delivered}
 use Rattle.move_core.specs.declared.answers.Delivered.TheVariants.{Ignored, Took, Sent, Runs, Resumed, Refused, Wires}
@@ -45,6 +45,7 @@ ignores h = answered h Ignored
 
 abbrev pub is_active : Side → Bool
 is_active Running = true
+is_active Draining = true
 is_active (Offering e) = true
 is_active _ = false
 
@@ -52,6 +53,7 @@ is_active _ = false
 abbrev pub epoch_of : Side → ℕ
 epoch_of Empty = 0
 epoch_of Running = 0
+epoch_of Draining = 0
 epoch_of (Offering e) = e
 epoch_of (Released e) = e
 epoch_of (Filling e) = e
@@ -164,6 +166,10 @@ offer_message me h = message_from me (h.top + 1) (body.Offer (lengths h.content)
 
 abbrev pub running : HostState → HostState
 running h = record h { side = Running }
+
+-- a running host whose command is unfinished drains
+abbrev pub draining : HostState → HostState
+draining h = record h { side = Draining }
 
 abbrev pub abort_message : HostName → HostState → Message
 abort_message me h = message_from me (epoch_of h.side) body.Abort

@@ -6,6 +6,8 @@ ghost use Rattle.ctrl_model.specs.Link.{Link};
 ghost use Rattle.ctrl_client.specs.Pieces.{HasField};
 ghost use Rattle.move_codec.specs.declared.message.Message.{Message};
 ghost use Rattle.move_core.specs.declared.answers.Delivered.{Delivered};
+ghost use Rattle.move_core.specs.declared.answers.Offered.TheVariants as answers;
+ghost use Rattle.move_core.specs.declared.answers.Gave.TheVariants as gave;
 ghost use Rattle.move_core.specs.Model.{HostModel};
 ghost use Rattle.move_core.specs.Hosts.{MatchesSide};
 ghost use Rattle.move_core.specs.declared.stage.MoveStage.TheVariants as stage;
@@ -13,8 +15,8 @@ ghost use Rattle.crb_machine.specs.Values.{DeviceValues, AreValid, held_values};
 ghost use Rattle.tpm_core.specs.Steps.{IsValid};
 ghost use Rattle.move_core.specs.Requests.{WiresView};
 ghost use Rattle.move_core.specs.Table.{delivered};
-ghost use Rattle.move_core.specs.Calls.{Follows, HasBytes, Offers, GivesUp, said_again};
-ghost use Rattle.hand_over.specs.Host.{HostState, delivered as model_delivered, running, abort_message, prepared_message};
+ghost use Rattle.move_core.specs.Calls.{Follows, HasBytes, Offers, Drains, GivesUp, said_again};
+ghost use Rattle.hand_over.specs.Host.{HostState, delivered as model_delivered, running, draining, abort_message, prepared_message};
 ghost use Rattle.hand_over.specs.Parts.{PieceSizes};
 ghost use Rattle.hand_over.specs.Bridge.{StandsFor, IsStep, IsOffer};
 ghost use Rattle.hand_over.specs.Fine.{IsUndisturbed, IsFineFor, IsSureStep, offered_by};
@@ -23,15 +25,22 @@ use crb_port::Port;
 use ctrl_client::Wires;
 
 /// Over a known and quiet link, each call of a host is what the model makes of it.
-#[tactic(auto, using(crate::proofs::Bridging::delivery, crate::proofs::Offering::offered, crate::proofs::Offering::gave_up, crate::proofs::Offering::said))]
+#[tactic(auto, using(crate::proofs::Bridging::delivery, crate::proofs::Offering::offered, crate::proofs::Offering::begins_to_drain, crate::proofs::Offering::drained, crate::proofs::Offering::gave_up, crate::proofs::Offering::gave_up_draining, crate::proofs::Offering::said))]
 pub fn hosts_follow_the_model<P: Port, W: Wires>()
     ensures delivery { (size : PieceSizes) (h new : HostModel P) (m : Message) (w v : WiresView W.Schedule) (l : Link) (g : HostState) (answer : Delivered)
         → w.link ≡ Some l → StandsFor size h l g → MatchesSide h → HasBytes m.body → Follows P.port_view (delivered h m) w v answer new
         → IsStep size (λ r. model_delivered h.name size g m r) v answer new }
     ensures offer { (size : PieceSizes) (h new : HostModel P) (w v : WiresView W.Schedule) (l : Link) (g : HostState) (m : Message)
-        → w.link ≡ Some l → StandsFor size h l g → ((k : Kind) → HasField k l) → (t : TpmParts) → l.emulator.tpm ≡ Some t → Offers P.port_view h w (Ok m) v new → IsOffer size h new l v.link g m }
+        → w.link ≡ Some l → StandsFor size h l g → ((k : Kind) → HasField k l) → (t : TpmParts) → l.emulator.tpm ≡ Some t → Offers P.port_view h w (Ok (answers.Sent m)) v new → IsOffer size h new l v.link g m }
+    ensures draining { (size : PieceSizes) (h new : HostModel P) (w v : WiresView W.Schedule) (l : Link) (g : HostState) (number : ℕ)
+        → StandsFor size h l g → Offers P.port_view h w (Ok (answers.Draining number)) v new → (v ≡ w) × StandsFor size new l (draining g) }
+    ensures drained { (size : PieceSizes) (h new : HostModel P) (w v : WiresView W.Schedule) (l : Link) (g : HostState) (m : Message)
+        → w.link ≡ Some l → StandsFor size h l g → ((k : Kind) → HasField k l) → (t : TpmParts) → l.emulator.tpm ≡ Some t → h.stage ≡ stage.Draining → Drains P.port_view h w (Ok (Some m)) v new
+        → IsOffer size h new l v.link (running g) m }
     ensures give_up { (size : PieceSizes) (h new : HostModel P) (l : Link) (g : HostState) (m : Message)
-        → StandsFor size h l g → GivesUp P.port_view h (Some m) new → StandsFor size new l (running g) × (m ≡ abort_message h.name g) }
+        → StandsFor size h l g → GivesUp P.port_view h (gave.Abort m) new → StandsFor size new l (running g) × (m ≡ abort_message h.name g) }
+    ensures undrained { (size : PieceSizes) (h new : HostModel P) (l : Link) (g : HostState)
+        → StandsFor size h l g → GivesUp P.port_view h gave.Undrained new → StandsFor size new l (running g) }
     ensures again { (size : PieceSizes) (h : HostModel P) (l : Link) (g : HostState) (m : Message)
         → StandsFor size h l g → said_again h.stage h ≡ Some m → m ≡ prepared_message h.name g }
 {}

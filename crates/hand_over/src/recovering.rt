@@ -14,7 +14,7 @@ use crate::delivering::ask_target;
 use crb_port::Port;
 use ctrl_client::Wires;
 use move_codec::Message;
-use move_core::{Delivered, Host, Side};
+use move_core::{Delivered, Gave, Host, Side};
 use std::alloc::Global;
 
 /// A source that offers gives up, and its Abort is delivered: its guest runs on.
@@ -35,7 +35,7 @@ pub fn call_off<P: Port, W: Wires>(
     ensures target_worker { KeepsWorker (P.port_view target.old.device.port) (P.port_view target.new.device.port) }
     ensures target_rest { P.rest target.new.device.port ≡ P.rest target.old.device.port }
 {
-    let Some(abort) = source.give_up() else {
+    let Gave::Abort(abort) = source.give_up() else {
         unreachable!()
     };
     let Ok(_answer) = target.deliver(alloc, &abort, to) else {

@@ -14,7 +14,7 @@ use crb_machine::stopped_devices_go_on;
 use crb_port::Port;
 use ctrl_client::Wires;
 use move_codec::Message;
-use move_core::{Delivered, Host};
+use move_core::{Delivered, Host, Offered};
 use std::alloc::Global;
 
 /// The source offers its guest.
@@ -41,9 +41,13 @@ pub fn ask_offer<P: Port, W: Wires>(
 {
     state_blobs::laws::blobs_are_prefix_free();
     stopped_devices_go_on::<P>();
-    match source.offer(from) {
-        Ok(m) => m,
+    let answer = match source.offer(from) {
+        Ok(answer) => answer,
         Err(_) => unreachable!(),
+    };
+    match answer {
+        Offered::Sent(m) => m,
+        Offered::Draining { .. } => unreachable!(),
     }
 }
 

@@ -18,18 +18,21 @@ use Rattle.move_codec.specs.declared.message.Message.{Message}
 use Rattle.move_codec.specs.declared.message.Body.{Body}
 use Rattle.move_codec.specs.declared.message.Body.TheVariants as body
 use Rattle.move_core.specs.declared.stage.MoveStage.{MoveStage}
-use Rattle.move_core.specs.declared.stage.MoveStage.TheVariants.{Empty, Running, Offering, Released, Filling, Prepared}
+use Rattle.move_core.specs.declared.stage.MoveStage.TheVariants.{Empty, Running, Draining, Offering, Released, Filling, Prepared}
 use Rattle.move_core.specs.declared.asking.Fetched.{Fetched}
 use Rattle.move_core.specs.declared.answers.Delivered.{Delivered}
 use Rattle.move_core.specs.declared.answers.OfferFault.{OfferFault}
 use Rattle.move_core.specs.declared.answers.OfferFault.TheVariants as fault
+use Rattle.move_core.specs.declared.answers.Offered.{Offered}
+use Rattle.move_core.specs.declared.answers.Offered.TheVariants as offered
 use Rattle.move_core.specs.Model.{HostModel}
 use Rattle.move_core.specs.Sides.{is_active, is_same, total_of, first_bad, part_after}
 use Rattle.move_core.specs.Requests.{WiresView, fetched, FetchesPiece, SwitchesOn, GivesLastPiece, total_in, GetsTotal, before, ThenGets, GetsTotals}
 use Rattle.move_core.specs.Table.{After, Row, reason_for, ignored, takes_offer, begins, on_offer, passes_on, gives, on_need, goes_to, took, loads, takes_piece, on_piece, on_prepared, on_commit, on_abort, on_refuse, on_message, delivered}
 use Rattle.move_core.specs.Table.Row.{Ends, Stops, Fetches, Gives, GivesLast, Loads}
-use Rattle.move_core.specs.Calls.{EndsIn, Follows, Offers}
-use Rattle.move_core.specs.Counts.{is_link, ends_by_link, is_link_reason, delivered_by_link, offered_by_link, CountsIf}
+use Rattle.move_core.specs.Calls.{EndsIn, Follows, Offers, Drains, EpochEnds}
+use Rattle.move_core.specs.Calls.EpochEnds.{Claimed, Unclaimed}
+use Rattle.move_core.specs.Counts.{is_link, ends_by_link, is_link_reason, delivered_by_link, offered_by_link, drained_by_link, CountsIf}
 
 -- ---- requests
 
@@ -159,6 +162,7 @@ module _ {P : Type 0} where
   need_shows h (Offering epoch totals) e part offset = cond_both _ _ _ Shows (λ fits. gives_shows h e (total_of totals part) part offset) (λ not_so. ignored_shows h)
   need_shows h Empty e part offset = ignored_shows h
   need_shows h Running e part offset = ignored_shows h
+  need_shows h Draining e part offset = ignored_shows h
   need_shows h (Released epoch) e part offset = ignored_shows h
   need_shows h (Filling epoch totals next place) e part offset = ignored_shows h
   need_shows h (Prepared epoch) e part offset = ignored_shows h
@@ -189,6 +193,7 @@ module _ {P : Type 0} where
       cond_both _ _ _ Shows (λ fits. takes_piece_shows h e totals next (place + length bytes) bytes) (λ not_so. ignored_shows h)
   piece_shows h Empty e part offset bytes = ignored_shows h
   piece_shows h Running e part offset bytes = ignored_shows h
+  piece_shows h Draining e part offset bytes = ignored_shows h
   piece_shows h (Offering epoch totals) e part offset bytes = ignored_shows h
   piece_shows h (Released epoch) e part offset bytes = ignored_shows h
   piece_shows h (Prepared epoch) e part offset bytes = ignored_shows h
@@ -198,6 +203,7 @@ module _ {P : Type 0} where
   prepared_shows h (Released epoch) e = cond_both (epoch == e) _ _ Shows (λ same. record { shown = refl }) (λ not_so. ignored_shows h)
   prepared_shows h Empty e = ignored_shows h
   prepared_shows h Running e = ignored_shows h
+  prepared_shows h Draining e = ignored_shows h
   prepared_shows h (Filling epoch totals next place) e = ignored_shows h
   prepared_shows h (Prepared epoch) e = ignored_shows h
 
@@ -205,6 +211,7 @@ module _ {P : Type 0} where
   commit_shows h (Prepared epoch) e = cond_both (epoch == e) _ _ Shows (λ same. record { shown = refl }) (λ not_so. ignored_shows h)
   commit_shows h Empty e = ignored_shows h
   commit_shows h Running e = ignored_shows h
+  commit_shows h Draining e = ignored_shows h
   commit_shows h (Offering epoch totals) e = ignored_shows h
   commit_shows h (Released epoch) e = ignored_shows h
   commit_shows h (Filling epoch totals next place) e = ignored_shows h
@@ -214,6 +221,7 @@ module _ {P : Type 0} where
   abort_shows h (Prepared epoch) e = cond_both (epoch == e) _ _ Shows (λ same. record { shown = refl }) (λ not_so. ignored_shows h)
   abort_shows h Empty e = ignored_shows h
   abort_shows h Running e = ignored_shows h
+  abort_shows h Draining e = ignored_shows h
   abort_shows h (Offering epoch totals) e = ignored_shows h
   abort_shows h (Released epoch) e = ignored_shows h
 
@@ -221,6 +229,7 @@ module _ {P : Type 0} where
   refuse_shows h (Offering epoch totals) e = cond_both (epoch == e) _ _ Shows (λ same. record { shown = refl }) (λ not_so. ignored_shows h)
   refuse_shows h Empty e = ignored_shows h
   refuse_shows h Running e = ignored_shows h
+  refuse_shows h Draining e = ignored_shows h
   refuse_shows h (Released epoch) e = ignored_shows h
   refuse_shows h (Filling epoch totals next place) e = ignored_shows h
   refuse_shows h (Prepared epoch) e = ignored_shows h
@@ -249,12 +258,26 @@ delivery_counted port_view h m w v (Err failed) new f = tt
 abbrev blobs : List Kind
 blobs = kind.Permanent ∷ kind.Volatile ∷ kind.Saved ∷ []
 
+end_counted : {P Schedule : Type 0} (port_view : P → PortView) (h : HostModel P) (w v : WiresView Schedule) (new : HostModel P) → EpochEnds port_view h w v new → v.faults ≡ w.faults
+end_counted {P} {Schedule} port_view h w v new (Claimed number most same stops is) = ap (λ (u : WiresView Schedule). u.faults) same
+end_counted {P} {Schedule} port_view h w v new (Unclaimed s) = ap (λ (u : WiresView Schedule). u.faults) s.offers.2
+
 -- an offer
-pub offer_counted : {P Schedule : Type 0} (port_view : P → PortView) (h : HostModel P) (w : WiresView Schedule) (answer : Result Message OfferFault) (v : WiresView Schedule) (new : HostModel P)
+pub offer_counted : {P Schedule : Type 0} (port_view : P → PortView) (h : HostModel P) (w : WiresView Schedule) (answer : Result Offered OfferFault) (v : WiresView Schedule) (new : HostModel P)
     → Offers port_view h w answer v new → CountsIf (offered_by_link answer) w.faults v.faults
-offer_counted port_view h w (Ok m) v new o = totals_counted blobs w v (Ok o.1.offers.1.totals) o.1.offers.1.asked
+offer_counted port_view h w (Ok (offered.Sent m)) v new o = totals_counted blobs w v (Ok o.1.offers.1.totals) o.1.offers.1.asked
+offer_counted {P} {Schedule} port_view h w (Ok (offered.Draining number)) v new o = ap (λ (u : WiresView Schedule). u.faults) o.2
 offer_counted {P} {Schedule} port_view h w (Err fault.Stopped) v new o = ap (λ (u : WiresView Schedule). u.faults) o.1
 offer_counted {P} {Schedule} port_view h w (Err fault.Device) v new o = ap (λ (u : WiresView Schedule). u.faults) o.1.offers.1
-offer_counted {P} {Schedule} port_view h w (Err (fault.NotYet number)) v new o = ap (λ (u : WiresView Schedule). u.faults) o.1
-offer_counted {P} {Schedule} port_view h w (Err fault.EpochEnd) v new o = ap (λ (u : WiresView Schedule). u.faults) o.1.offers.2
+offer_counted {P} {Schedule} port_view h w (Err fault.EpochEnd) v new o = end_counted port_view h w v new o.1
 offer_counted port_view h w (Err (fault.Wires f)) v new o = totals_counted blobs w v (Err f) o.1.offers.2
+
+-- the offer of a host that drained
+pub drain_counted : {P Schedule : Type 0} (port_view : P → PortView) (h : HostModel P) (w : WiresView Schedule) (answer : Result (Option Message) OfferFault) (v : WiresView Schedule) (new : HostModel P)
+    → Drains port_view h w answer v new → CountsIf (drained_by_link answer) w.faults v.faults
+drain_counted {P} {Schedule} port_view h w (Ok None) v new o = ap (λ (u : WiresView Schedule). u.faults) o.0
+drain_counted port_view h w (Ok (Some m)) v new o = totals_counted blobs w v (Ok o.offers.1.totals) o.offers.1.asked
+drain_counted port_view h w (Err fault.Stopped) v new o = absurd o
+drain_counted {P} {Schedule} port_view h w (Err fault.Device) v new o = ap (λ (u : WiresView Schedule). u.faults) o.offers.1
+drain_counted port_view h w (Err fault.EpochEnd) v new o = absurd o
+drain_counted port_view h w (Err (fault.Wires f)) v new o = totals_counted blobs w v (Err f) o.offers.2

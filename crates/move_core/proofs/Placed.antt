@@ -16,7 +16,7 @@ use Rattle.move_codec.specs.declared.message.Message.{Message}
 use Rattle.move_codec.specs.declared.message.Body.{Body}
 use Rattle.move_codec.specs.declared.message.Body.TheVariants as body
 use Rattle.move_core.specs.declared.stage.MoveStage.{MoveStage}
-use Rattle.move_core.specs.declared.stage.MoveStage.TheVariants.{Empty, Running, Offering, Released, Filling, Prepared}
+use Rattle.move_core.specs.declared.stage.MoveStage.TheVariants.{Empty, Running, Draining, Offering, Released, Filling, Prepared}
 use Rattle.move_core.specs.declared.asking.Fetched.{Fetched}
 use Rattle.move_core.specs.declared.answers.Delivered.{Delivered}
 use Rattle.move_core.specs.Model.{HostModel}
@@ -86,6 +86,7 @@ row_placed port_view (Loads bytes next) w v answer new well follows = made_place
 passive_still : (s : MoveStage) → is_active s ≡ false → holds_device s ≡ true
 passive_still Empty passive = refl
 passive_still Running passive = cc
+passive_still Draining passive = cc
 passive_still (Offering e totals) passive = cc
 passive_still (Released e) passive = refl
 passive_still (Filling e totals part place) passive = refl
@@ -184,6 +185,7 @@ module _ {P : Type 0} (h : HostModel P) (placed : MatchesSide h) where
   need_well (Offering epoch totals) e part offset = cond_both _ _ _ LeadsWell (λ fits. gives_well e (total_of totals part) part offset) (λ not_so. ignored_well)
   need_well Empty e part offset = ignored_well
   need_well Running e part offset = ignored_well
+  need_well Draining e part offset = ignored_well
   need_well (Released epoch) e part offset = ignored_well
   need_well (Filling epoch totals next place) e part offset = ignored_well
   need_well (Prepared epoch) e part offset = ignored_well
@@ -196,6 +198,7 @@ module _ {P : Type 0} (h : HostModel P) (placed : MatchesSide h) where
       (λ not_so. ignored_well)
   piece_well Empty e part offset bytes is = ignored_well
   piece_well Running e part offset bytes is = ignored_well
+  piece_well Draining e part offset bytes is = ignored_well
   piece_well (Offering epoch totals) e part offset bytes is = ignored_well
   piece_well (Released epoch) e part offset bytes is = ignored_well
   piece_well (Prepared epoch) e part offset bytes is = ignored_well
@@ -208,6 +211,7 @@ module _ {P : Type 0} (h : HostModel P) (placed : MatchesSide h) where
   prepared_well (Released epoch) e is = cond_both (epoch == e) _ _ LeadsWell (λ same. record { led = same_well _ }) (λ not_so. ignored_well)
   prepared_well Empty e is = ignored_well
   prepared_well Running e is = ignored_well
+  prepared_well Draining e is = ignored_well
   prepared_well (Filling epoch totals next place) e is = ignored_well
   prepared_well (Prepared epoch) e is = ignored_well
 
@@ -217,6 +221,7 @@ module _ {P : Type 0} (h : HostModel P) (placed : MatchesSide h) where
       (λ not_so. ignored_well)
   commit_well Empty e = ignored_well
   commit_well Running e = ignored_well
+  commit_well Draining e = ignored_well
   commit_well (Offering epoch totals) e = ignored_well
   commit_well (Released epoch) e = ignored_well
   commit_well (Filling epoch totals next place) e = ignored_well
@@ -227,6 +232,7 @@ module _ {P : Type 0} (h : HostModel P) (placed : MatchesSide h) where
       (λ not_so. ignored_well)
   refuse_well Empty e = ignored_well
   refuse_well Running e = ignored_well
+  refuse_well Draining e = ignored_well
   refuse_well (Prepared epoch) e = ignored_well
   refuse_well (Released epoch) e = ignored_well
   refuse_well (Filling epoch totals next place) e = ignored_well
@@ -236,6 +242,7 @@ module _ {P : Type 0} (h : HostModel P) (placed : MatchesSide h) where
   abort_well (Prepared epoch) e is = cond_both (epoch == e) _ _ LeadsWell (λ same. record { led = record { well = emptied_well h (still_at _ is refl) } }) (λ not_so. ignored_well)
   abort_well Empty e is = ignored_well
   abort_well Running e is = ignored_well
+  abort_well Draining e is = ignored_well
   abort_well (Offering epoch totals) e is = ignored_well
   abort_well (Released epoch) e is = ignored_well
 

@@ -6,7 +6,7 @@ use Rattle.move_codec.specs.declared.message.Message.{Message}
 use Rattle.move_codec.specs.declared.message.Body.TheVariants as body
 use Rattle.move_core.specs.Model.{HostModel}
 use Rattle.move_core.specs.declared.stage.MoveStage.{MoveStage}
-use Rattle.move_core.specs.declared.stage.MoveStage.TheVariants.{Empty, Running, Offering, Released, Filling, Prepared}
+use Rattle.move_core.specs.declared.stage.MoveStage.TheVariants.{Empty, Running, Draining, Offering, Released, Filling, Prepared}
 use Rattle.move_core.specs.declared.side.Side.TheVariants as side
 use Rattle.move_core.specs.Sides.{side_of, is_same}
 use Rattle.move_core.specs.Table.{sends, ignored, on_message, on_commit, on_prepared, delivered}
@@ -30,6 +30,7 @@ commit_at : {P : Type 0} (h : HostModel P) (s : MoveStage) (e : ℕ) → side_of
 commit_at h (Prepared epoch) e other = cond-false (epoch == e) _ _ (ne_eqb epoch e (λ same. other (ap side.Prepared same)))
 commit_at h Empty e other = refl
 commit_at h Running e other = refl
+commit_at h Draining e other = refl
 commit_at h (Offering epoch totals) e other = refl
 commit_at h (Released epoch) e other = refl
 commit_at h (Filling epoch totals part place) e other = refl
@@ -43,6 +44,7 @@ prepared_at h (Offering epoch totals) e not_offering not_released = cond-false (
 prepared_at h (Released epoch) e not_offering not_released = cond-false (epoch == e) _ _ (ne_eqb epoch e (λ same. not_released (ap side.Released same)))
 prepared_at h Empty e not_offering not_released = refl
 prepared_at h Running e not_offering not_released = refl
+prepared_at h Draining e not_offering not_released = refl
 prepared_at h (Filling epoch totals part place) e not_offering not_released = refl
 prepared_at h (Prepared epoch) e not_offering not_released = refl
 
@@ -56,6 +58,7 @@ released_at : {P : Type 0} (h : HostModel P) (s : MoveStage) (e : ℕ) → side_
 released_at h (Released epoch) e is = cond-true (epoch == e) _ _ (eq-eqb epoch e cc)
 released_at h Empty e is = absurd cc
 released_at h Running e is = absurd cc
+released_at h Draining e is = absurd cc
 released_at h (Offering epoch totals) e is = absurd cc
 released_at h (Filling epoch totals part place) e is = absurd cc
 released_at h (Prepared epoch) e is = absurd cc

@@ -12,7 +12,7 @@ use Rattle.move_codec.specs.declared.message.Message.{Message}
 use Rattle.move_codec.specs.declared.message.Body.{Body}
 use Rattle.move_codec.specs.declared.message.Body.TheVariants as body
 use Rattle.move_core.specs.declared.stage.MoveStage.{MoveStage}
-use Rattle.move_core.specs.declared.stage.MoveStage.TheVariants.{Empty, Running, Offering, Released, Filling, Prepared}
+use Rattle.move_core.specs.declared.stage.MoveStage.TheVariants.{Empty, Running, Draining, Offering, Released, Filling, Prepared}
 use Rattle.move_core.specs.declared.side.Side.{Side}
 use Rattle.move_core.specs.declared.side.Side.TheVariants as side
 use Rattle.move_core.specs.declared.asking.Fetched.{Fetched}
@@ -58,6 +58,7 @@ active_at : (s : MoveStage) (e : ℕ) → side_of s ≡ side.Offering e → is_a
 active_at (Offering epoch totals) e is passive = absurd cc
 active_at Empty e is passive = absurd cc
 active_at Running e is passive = absurd cc
+active_at Draining e is passive = absurd cc
 active_at (Released epoch) e is passive = absurd cc
 active_at (Filling epoch totals part place) e is passive = absurd cc
 active_at (Prepared epoch) e is passive = absurd cc
@@ -89,6 +90,7 @@ module _ {P : Type 0} (h : HostModel P) where
   need_stays (Offering epoch totals) now is e part offset = cond_both _ _ _ (Stays h) (λ fits. gives_stays e (total_of totals part) part offset) (λ not_so. ignored_stays)
   need_stays Empty now is e part offset = ignored_stays
   need_stays Running now is e part offset = ignored_stays
+  need_stays Draining now is e part offset = ignored_stays
   need_stays (Released epoch) now is e part offset = ignored_stays
   need_stays (Filling epoch totals next place) now is e part offset = ignored_stays
   need_stays (Prepared epoch) now is e part offset = ignored_stays
@@ -97,6 +99,7 @@ module _ {P : Type 0} (h : HostModel P) where
   piece_stays (Offering epoch totals) now is e part offset bytes = ignored_stays
   piece_stays Empty now is e part offset bytes = ignored_stays
   piece_stays Running now is e part offset bytes = ignored_stays
+  piece_stays Draining now is e part offset bytes = ignored_stays
   piece_stays (Released epoch) now is e part offset bytes = ignored_stays
   piece_stays (Filling epoch totals next place) now is e part offset bytes = absurd cc
   piece_stays (Prepared epoch) now is e part offset bytes = ignored_stays
@@ -107,6 +110,7 @@ module _ {P : Type 0} (h : HostModel P) where
       (λ not_so. ignored_stays)
   prepared_stays Empty now is e = ignored_stays
   prepared_stays Running now is e = ignored_stays
+  prepared_stays Draining now is e = ignored_stays
   prepared_stays (Released epoch) now is e = absurd cc
   prepared_stays (Filling epoch totals next place) now is e = ignored_stays
   prepared_stays (Prepared epoch) now is e = ignored_stays
@@ -115,6 +119,7 @@ module _ {P : Type 0} (h : HostModel P) where
   commit_stays (Offering epoch totals) now is e = ignored_stays
   commit_stays Empty now is e = ignored_stays
   commit_stays Running now is e = ignored_stays
+  commit_stays Draining now is e = ignored_stays
   commit_stays (Released epoch) now is e = ignored_stays
   commit_stays (Filling epoch totals next place) now is e = ignored_stays
   commit_stays (Prepared epoch) now is e = absurd cc
@@ -123,6 +128,7 @@ module _ {P : Type 0} (h : HostModel P) where
   abort_stays (Offering epoch totals) now is e = ignored_stays
   abort_stays Empty now is e = ignored_stays
   abort_stays Running now is e = ignored_stays
+  abort_stays Draining now is e = ignored_stays
   abort_stays (Released epoch) now is e = ignored_stays
   abort_stays (Filling epoch totals next place) now is e = absurd cc
   abort_stays (Prepared epoch) now is e = absurd cc
@@ -133,6 +139,7 @@ module _ {P : Type 0} (h : HostModel P) where
       (λ not_so. ignored_stays)
   refuse_stays Empty now is e = ignored_stays
   refuse_stays Running now is e = ignored_stays
+  refuse_stays Draining now is e = ignored_stays
   refuse_stays (Released epoch) now is e = ignored_stays
   refuse_stays (Filling epoch totals next place) now is e = ignored_stays
   refuse_stays (Prepared epoch) now is e = ignored_stays

@@ -15,10 +15,14 @@ use Rattle.move_codec.specs.declared.message.Message.{Message}
 use Rattle.move_codec.specs.declared.message.Body.{Body}
 use Rattle.move_codec.specs.declared.message.Body.TheVariants as body
 use Rattle.move_core.specs.declared.stage.MoveStage.{MoveStage}
-use Rattle.move_core.specs.declared.stage.MoveStage.TheVariants.{Running, Offering, Prepared}
+use Rattle.move_core.specs.declared.stage.MoveStage.TheVariants.{Running, Draining, Offering, Prepared}
 use Rattle.move_core.specs.declared.answers.Delivered.{Delivered}
 use Rattle.move_core.specs.declared.answers.OfferFault.{OfferFault}
 use Rattle.move_core.specs.declared.answers.OfferFault.TheVariants as fault
+use Rattle.move_core.specs.declared.answers.Offered.{Offered}
+use Rattle.move_core.specs.declared.answers.Offered.TheVariants as offered
+use Rattle.move_core.specs.declared.answers.Gave.{Gave}
+use Rattle.move_core.specs.declared.answers.Gave.TheVariants as gave
 use Rattle.move_core.specs.Model.{HostModel}
 use Rattle.move_core.specs.Sides.{is_running}
 use Rattle.move_core.specs.Hosts.{Decodes}
@@ -90,7 +94,6 @@ OffersHeld h w (Err fault.EpochEnd) v new = (is_lost h.device.regs.phase ≡ fal
 OffersHeld h w (Err (fault.Wires f)) v new =
     (is_lost h.device.regs.phase ≡ false) × (h.top < 2 ^ 64 - 1) × GetsTotals (kind.Permanent ∷ kind.Volatile ∷ kind.Saved ∷ []) w v (Err f) × (new ≡ h)
 OffersHeld h w (Err fault.Stopped) v new = ⊥
-OffersHeld h w (Err (fault.NotYet number)) v new = ⊥
 
 -- after a refusal the device goes on
 abbrev pub EndsOffer : {P : Type 0} → (P → PortView) → Result Message OfferFault → HostModel P → HostModel P → Type 0
@@ -105,21 +108,40 @@ pub record StopsAndOffers {P Schedule : Type 0} (port_view : P → PortView) (h 
   pub offers : OffersHeld (record h { device = device }) w answer v held
   pub ends : EndsOffer port_view answer held new
 
+-- the greatest epoch was seen, while a command is claimed or not
+pub data EpochEnds {P Schedule : Type 0} (port_view : P → PortView) (h : HostModel P) (w v : WiresView Schedule) (new : HostModel P) : Type 0 where
+  Claimed : (number : ℕ) → h.top ≡ 2 ^ 64 - 1 → v ≡ w → DeviceStops port_view h.device (Err (record { number = number })) new.device → new ≡ record h { device = new.device } → EpochEnds port_view h w v new
+  Unclaimed : StopsAndOffers port_view h w (Err fault.EpochEnd) v new → EpochEnds port_view h w v new
+
 -- each answer of an offer with its cause
-abbrev pub Offers : {P Schedule : Type 0} → (P → PortView) → HostModel P → WiresView Schedule → Result Message OfferFault → WiresView Schedule → HostModel P → Type 0
+abbrev pub Offers : {P Schedule : Type 0} → (P → PortView) → HostModel P → WiresView Schedule → Result Offered OfferFault → WiresView Schedule → HostModel P → Type 0
 Offers port_view h w (Err fault.Stopped) v new = (is_running h.stage ≡ false) × (v ≡ w) × (new ≡ h)
-Offers port_view h w (Err (fault.NotYet number)) v new =
-    (h.stage ≡ Running) × (v ≡ w) × DeviceStops port_view h.device (Err (record { number = number })) new.device × (new ≡ record h { device = new.device })
-Offers port_view h w answer v new = (h.stage ≡ Running) × StopsAndOffers port_view h w answer v new
+Offers port_view h w (Err fault.EpochEnd) v new = (h.stage ≡ Running) × EpochEnds port_view h w v new
+Offers port_view h w (Err f) v new = (h.stage ≡ Running) × StopsAndOffers port_view h w (Err f) v new
+Offers port_view h w (Ok (offered.Sent m)) v new = (h.stage ≡ Running) × StopsAndOffers port_view h w (Ok m) v new
+Offers port_view h w (Ok (offered.Draining number)) v new =
+    (h.stage ≡ Running) × (h.top < 2 ^ 64 - 1) × (v ≡ w) × DeviceStops port_view h.device (Err (record { number = number })) new.device
+    × (new ≡ record h { stage = Draining; device = new.device })
+
+-- ---- drained
+
+-- Each answer to a draining host's question whether its command is done. Once it is, the host is running and offers.
+abbrev pub Drains : {P Schedule : Type 0} → (P → PortView) → HostModel P → WiresView Schedule → Result (Option Message) OfferFault → WiresView Schedule → HostModel P → Type 0
+Drains port_view h w (Ok None) v new = (v ≡ w) × (number : ℕ) × DeviceStops port_view h.device (Err (record { number = number })) new.device × (new ≡ record h { device = new.device })
+Drains port_view h w (Ok (Some m)) v new = StopsAndOffers port_view (record h { stage = Running }) w (Ok m) v new
+Drains port_view h w (Err fault.Stopped) v new = ⊥
+Drains port_view h w (Err fault.EpochEnd) v new = ⊥
+Drains port_view h w (Err f) v new = StopsAndOffers port_view (record h { stage = Running }) w (Err f) v new
 
 -- ---- give_up and again
 
-abbrev pub GivesUpAt : {P : Type 0} → MoveStage → (P → PortView) → HostModel P → Option Message → HostModel P → Type 0
+abbrev pub GivesUpAt : {P : Type 0} → MoveStage → (P → PortView) → HostModel P → Gave → HostModel P → Type 0
 GivesUpAt (Offering e totals) port_view h answer new =
-    (answer ≡ Some (message_from h.name e body.Abort)) × Resumes port_view (record h { stage = Running; record_bytes = [] }) new
-GivesUpAt _ port_view h answer new = (answer ≡ None) × (new ≡ h)
+    (answer ≡ gave.Abort (message_from h.name e body.Abort)) × Resumes port_view (record h { stage = Running; record_bytes = [] }) new
+GivesUpAt Draining port_view h answer new = (answer ≡ gave.Undrained) × (new ≡ record h { stage = Running })
+GivesUpAt _ port_view h answer new = (answer ≡ gave.NotOffering) × (new ≡ h)
 
-abbrev pub GivesUp : {P : Type 0} → (P → PortView) → HostModel P → Option Message → HostModel P → Type 0
+abbrev pub GivesUp : {P : Type 0} → (P → PortView) → HostModel P → Gave → HostModel P → Type 0
 GivesUp port_view h answer new = GivesUpAt h.stage port_view h answer new
 
 -- the message that a prepared host repeats

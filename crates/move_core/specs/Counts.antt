@@ -1,5 +1,5 @@
 -- Which answers say that a call of the wires failed, and the count of such calls. (Own definitions.)
-use Rattle.std.specs.Prelude.{◌≡◌, ℕ, Bool, true, false, Result, Ok, Err}
+use Rattle.std.specs.Prelude.{◌≡◌, ℕ, Bool, true, false, Option, Result, Ok, Err}
 use Rattle.vt_base.specs.Faults.{IsCounted}
 use Rattle.ctrl_client.specs.declared.fault.ClientFault.{ClientFault}
 use Rattle.ctrl_client.specs.declared.fault.ClientFault.TheVariants.{Link as LinkFault, Result as BadResult, Reply as BadReply}
@@ -12,6 +12,7 @@ use Rattle.move_core.specs.declared.answers.Delivered.{Delivered}
 use Rattle.move_core.specs.declared.answers.Delivered.TheVariants as delivers
 use Rattle.move_core.specs.declared.answers.OfferFault.{OfferFault}
 use Rattle.move_core.specs.declared.answers.OfferFault.TheVariants as fault
+use Rattle.move_core.specs.declared.answers.Offered.{Offered}
 
 -- a call of the wires failed
 abbrev pub is_link : ClientFault → Bool
@@ -52,13 +53,20 @@ delivered_by_link (delivers.Refused m) = is_link_refusal m.body
 delivered_by_link (delivers.Wires f) = is_link f
 
 -- the answer of `offer` that says so
-abbrev pub offered_by_link : Result Message OfferFault → Bool
-offered_by_link (Ok m) = false
-offered_by_link (Err fault.Stopped) = false
-offered_by_link (Err fault.Device) = false
-offered_by_link (Err (fault.NotYet number)) = false
-offered_by_link (Err fault.EpochEnd) = false
-offered_by_link (Err (fault.Wires f)) = is_link f
+abbrev pub is_link_fault : OfferFault → Bool
+is_link_fault fault.Stopped = false
+is_link_fault fault.Device = false
+is_link_fault fault.EpochEnd = false
+is_link_fault (fault.Wires f) = is_link f
+
+abbrev pub offered_by_link : Result Offered OfferFault → Bool
+offered_by_link (Ok answer) = false
+offered_by_link (Err f) = is_link_fault f
+
+-- and that of `drained`
+abbrev pub drained_by_link : Result (Option Message) OfferFault → Bool
+drained_by_link (Ok answer) = false
+drained_by_link (Err f) = is_link_fault f
 
 -- one fault of the wires was counted if the answer says so, and none otherwise
 abbrev pub CountsIf : Bool → ℕ → ℕ → Type 0

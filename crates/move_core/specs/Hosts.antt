@@ -1,5 +1,5 @@
 -- What holds of every host. (Own definitions.)
-use Rattle.std.specs.Prelude.{◌≡◌, ◌≤◌, ◌<◌, ℕ, false, List, [], length, Some, Result, Ok, Err}
+use Rattle.std.specs.Prelude.{◌≡◌, ◌≤◌, ◌<◌, ◌-◌, ◌^◌, ℕ, false, List, [], length, Some, Result, Ok, Err}
 use Rattle.vt_base.specs.declared.types.Malformed.{Malformed}
 use Rattle.vt_base.specs.declared.types.HostName.{HostName}
 use Rattle.move_codec.specs.declared.names.Part.{Part}
@@ -13,7 +13,7 @@ use Rattle.crb_machine.specs.Model.{DeviceModel}
 use Rattle.device_record.specs.Records.{IsRecord}
 use Rattle.device_record.specs.Layouts.{IsRefused}
 use Rattle.move_core.specs.declared.stage.MoveStage.{MoveStage}
-use Rattle.move_core.specs.declared.stage.MoveStage.TheVariants.{Empty, Running, Offering, Released, Filling, Prepared}
+use Rattle.move_core.specs.declared.stage.MoveStage.TheVariants.{Empty, Running, Draining, Offering, Released, Filling, Prepared}
 use Rattle.move_core.specs.Model.{HostModel}
 use Rattle.move_core.specs.Sides.{holds_device, total_of}
 
@@ -35,16 +35,17 @@ HasRecord (Prepared e) bytes d = IsRecord bytes (held_values d)
 HasRecord (Filling e totals p place) bytes d = AreTotals totals × (place < total_of totals p) × HasPrefix p place bytes d
 HasRecord _ bytes d = bytes ≡ []
 
--- the epoch of the side is the greatest one seen
+-- the epoch of the side is the greatest one seen, and a draining host has an epoch left
 abbrev pub IsAtTop : MoveStage → ℕ → Type 0
 IsAtTop Empty top = Unit {0}
 IsAtTop Running top = Unit {0}
+IsAtTop Draining top = top < 2 ^ 64 - 1
 IsAtTop (Offering e totals) top = e ≡ top
 IsAtTop (Released e) top = e ≡ top
 IsAtTop (Filling e totals p place) top = e ≡ top
 IsAtTop (Prepared e) top = e ≡ top
 
--- The device is held exactly where the guest doesn't run, and the bytes of the record are those that the side needs.
+-- The device is held exactly where the guest neither runs nor drains, and the bytes of the record are those that the side needs.
 pub record MatchesSide {P : Type 0} (h : HostModel P) : Type 0 where
   pub held : h.device.held ≡ holds_device h.stage
   pub least : 1 ≤ h.piece

@@ -10,8 +10,8 @@ use Rattle.move_core.specs.Calls.{Resumes}
 use Rattle.move_core.specs.Model.{HostModel}
 use Rattle.move_core.specs.Sides.{is_running}
 use Rattle.move_core.specs.declared.stage.MoveStage.TheVariants.{Running}
-use Rattle.move_core.specs.declared.answers.OfferFault.{OfferFault}
-use Rattle.move_core.specs.declared.answers.OfferFault.TheVariants as fault
+use Rattle.move_core.specs.declared.answers.RecordFault.{RecordFault}
+use Rattle.move_core.specs.declared.answers.RecordFault.TheVariants as fault
 
 -- the device was stopped, it was lost or not, and it goes on
 pub record StopsAndResumes {P : Type 0} (port_view : P → PortView) (h new : HostModel P) : Type 0 where
@@ -24,11 +24,9 @@ abbrev pub WritesRecord : {P : Type 0} → (P → PortView) → HostModel P → 
 WritesRecord port_view h count bytes new = (paused : StopsAndResumes port_view h new) × (is_lost paused.device.regs.phase ≡ false) × IsRecord (take count bytes) (held_values paused.device)
 
 -- each answer of the call with its cause
-abbrev pub Records : {P : Type 0} → (P → PortView) → HostModel P → Result ℕ OfferFault → List ℕ → HostModel P → Type 0
+abbrev pub Records : {P : Type 0} → (P → PortView) → HostModel P → Result ℕ RecordFault → List ℕ → HostModel P → Type 0
 Records port_view h (Ok count) bytes new = (h.stage ≡ Running) × WritesRecord port_view h count bytes new
 Records port_view h (Err fault.Stopped) bytes new = (is_running h.stage ≡ false) × (new ≡ h)
 Records port_view h (Err (fault.NotYet number)) bytes new =
     (h.stage ≡ Running) × DeviceStops port_view h.device (Err (record { number = number })) new.device × (new ≡ record h { device = new.device })
 Records port_view h (Err fault.Device) bytes new = (h.stage ≡ Running) × ((paused : StopsAndResumes port_view h new) × (is_lost paused.device.regs.phase ≡ true))
-Records port_view h (Err fault.EpochEnd) bytes new = ⊥
-Records port_view h (Err (fault.Wires f)) bytes new = ⊥

@@ -12,7 +12,7 @@ use Rattle.move_core.specs.declared.asking.Fetched.{Fetched}
 use Rattle.ctrl_model.specs.Link.{Link, empty_channel}
 use Rattle.ctrl_client.specs.Exchange.{IsQuiet, Commands, CountsLink}
 use Rattle.ctrl_client.specs.Pieces.{HasField, Fetches, IsPiece, IsPlace}
-use Rattle.ctrl_client.specs.Traffic.{Traffic, TellsResult, TellsPiece}
+use Rattle.ctrl_client.specs.Traffic.{Traffic, AnswersResult, AnswersPiece}
 
 -- What contracts see of wires: the link and the traffic, where they are known, which of the calls to come are to fail, and how
 -- many calls have failed.
@@ -30,7 +30,7 @@ wires_view fails later link schedule faults traffic = record { fails = fails; la
 -- one request whose reply is a result alone, with its answer
 pub record Asks {Schedule : Type 0} (q : Request) (bytes : List ℕ) (w v : WiresView Schedule) (answer : Result (Unit {0}) ClientFault) : Type 0 where
   pub exact : IfSome w.link (λ l. IsQuiet l → Commands w.fails w.later q bytes l w.schedule answer v.link v.schedule)
-  pub reply : answer ≢ Err LinkFault → TellsResult q bytes w.traffic v.traffic answer
+  pub reply : answer ≢ Err LinkFault → AnswersResult q bytes w.traffic v.traffic answer
   pub counts : CountsLink w.faults v.faults answer
   pub refused : (number : ℕ) → answer ≡ Err (BadResult number) → number ≢ 0
   pub no_reply : (place : ℕ) → answer ≢ Err (BadReply place)
@@ -40,7 +40,7 @@ pub record Asks {Schedule : Type 0} (q : Request) (bytes : List ℕ) (w v : Wire
 -- one request for a piece of a blob into a slice, with the slice before and after it, and its answer
 pub record Gets {Schedule : Type 0} (kind : Kind) (offset : ℕ) (w v : WiresView Schedule) (old new : List ℕ) (answer : Result Piece ClientFault) : Type 0 where
   pub exact : IfSome w.link (λ l. HasField kind l → Fetches w.fails w.later kind offset (length old) l w.schedule answer old new v.link v.schedule)
-  pub reply : answer ≢ Err LinkFault → TellsPiece (GetStateBlob 0 (type_of kind) offset) offset w.traffic v.traffic v.link old new answer
+  pub reply : answer ≢ Err LinkFault → AnswersPiece (GetStateBlob 0 (type_of kind) offset) offset w.traffic v.traffic v.link old new answer
   pub piece : IfOk answer (IsPiece offset (length old))
   pub counts : CountsLink w.faults v.faults answer
   pub refused : (number : ℕ) → answer ≡ Err (BadResult number) → number ≢ 0

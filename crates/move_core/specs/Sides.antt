@@ -10,7 +10,7 @@ use Rattle.move_codec.specs.declared.names.Part.TheVariants.{Record, Permanent, 
 use Rattle.move_core.specs.declared.side.Side.{Side}
 use Rattle.move_core.specs.declared.side.Side.TheVariants as side
 use Rattle.move_core.specs.declared.stage.MoveStage.{MoveStage}
-use Rattle.move_core.specs.declared.stage.MoveStage.TheVariants.{Empty, Running, Offering, Released, Filling, Prepared}
+use Rattle.move_core.specs.declared.stage.MoveStage.TheVariants.{Empty, Running, Draining, Offering, Released, Filling, Prepared}
 
 abbrev pub other : HostName → HostName
 other A = B
@@ -25,6 +25,7 @@ is_same _ _ = false
 abbrev pub side_of : MoveStage → Side
 side_of Empty = side.Empty
 side_of Running = side.Running
+side_of Draining = side.Draining
 side_of (Offering e totals) = side.Offering e
 side_of (Released e) = side.Released e
 side_of (Filling e totals part place) = side.Filling e
@@ -35,14 +36,21 @@ abbrev pub is_running : MoveStage → Bool
 is_running Running = true
 is_running _ = false
 
--- whether the device is held
+-- whether the guest waits until its last command is done
+abbrev pub is_draining : MoveStage → Bool
+is_draining Draining = true
+is_draining _ = false
+
+-- whether the device is held: no worker takes a job from it, or gives one back
 abbrev pub holds_device : MoveStage → Bool
 holds_device Running = false
+holds_device Draining = false
 holds_device _ = true
 
 -- whether the guest runs here, or may run again without a message of the other host
 abbrev pub is_active : MoveStage → Bool
 is_active Running = true
+is_active Draining = true
 is_active (Offering e totals) = true
 is_active _ = false
 

@@ -9,11 +9,11 @@ ghost use Rattle.move_core.specs.Requests.{wires_view};
 ghost use Rattle.move_core.specs.Sides.{side_of, is_running};
 ghost use Rattle.move_core.specs.Hosts.{IsConsistentHost, new_device};
 ghost use Rattle.move_core.specs.Table.{delivered};
-ghost use Rattle.move_core.specs.Counts.{CountsIf, delivered_by_link, offered_by_link};
+ghost use Rattle.move_core.specs.Counts.{CountsIf, delivered_by_link, offered_by_link, drained_by_link};
 ghost use Rattle.move_core.specs.Recording.{Records};
-ghost use Rattle.move_core.specs.Calls.{Follows, HasBytes, IsNeed, Offers, GivesUp, said_again};
+ghost use Rattle.move_core.specs.Calls.{Follows, HasBytes, IsNeed, Offers, Drains, GivesUp, said_again};
 
-use crate::answers::{Delivered, OfferFault};
+use crate::answers::{Delivered, Gave, OfferFault, Offered, RecordFault};
 use crate::parts::HostParts;
 use crate::record_buf::RecordBuf;
 use crate::side::Side;
@@ -28,8 +28,8 @@ use std::alloc::{AllocError, Global};
 use std::marker::Model;
 use vt_base::HostName;
 
-/// One of two hosts between which a virtual TPM moves. It owns the device, which is held at every side but `Running`, and
-/// lends no reference to it. Its emulator is behind wires, which are an argument of each call that uses them.
+/// One of two hosts between which a virtual TPM moves. It owns the device, which is held at every side but `Running` and
+/// `Draining`, and lends no reference to it. Its emulator is behind wires, which are an argument of each call that uses them.
 ///
 /// Contracts see it as a `HostModel` of specs/Model.antt: its name, the most bytes of a piece of its record, the greatest
 /// epoch seen, its side with what it knows there, the bytes of the record in this move, and its device.
@@ -148,9 +148,12 @@ impl<P: Port> Host<P> {
     /// Offers the guest to the other host: stops the device, keeps its record, and asks the emulator for the lengths of its
     /// three blobs. Gives the Offer to send, in the epoch after the greatest one seen. It allocates nothing.
     ///
+    /// Where a command is claimed and unfinished, no wire is used and the side is `Draining`: the guest stops, the worker
+    /// goes on, and the Offer comes from [`Host::drained`].
+    ///
     /// An [`OfferFault`] says why no offer is made. The guest then goes on here, and the host is as before, but for an answer
     /// that was collected from its port ([`laws::offers_are_undone`](crate::laws::offers_are_undone)).
-    pub fn offer<W: Wires>(&mut self, wires: &mut W) -> Result<Message, OfferFault>
+    pub fn offer<W: Wires>(&mut self, wires: &mut W) -> Result<Offered, OfferFault>
         ensures offers { let w = wires_view W.fails W.later (W.link wires.old) (W.schedule wires.old) (W.faults wires.old) (W.traffic wires.old) in
             let v = wires_view W.fails W.later (W.link wires.new) (W.schedule wires.new) (W.faults wires.new) (W.traffic wires.new) in
             Offers P.port_view self.old w result v self.new }
@@ -162,6 +165,28 @@ impl<P: Port> Host<P> {
         ensures top { self.old.top ≤ self.new.top }
     {
         self.parts.offer(wires)
+    }
+
+    /// Makes the offer of a draining host once its command is done. `None`, and nothing changes, exactly where the command is
+    /// still claimed. It allocates nothing.
+    ///
+    /// An [`OfferFault`] says why no offer is made: the answer was lost (`Device`), or a request to the emulator failed
+    /// (`Wires`). The side is then `Running`, and the host is otherwise as before, but for the answer that was collected from
+    /// its port. `Stopped` and `EpochEnd` never come.
+    pub fn drained<W: Wires>(&mut self, wires: &mut W) -> Result<Option<Message>, OfferFault>
+        requires drains { self.old.stage ≡ MoveStage.Draining }
+
+        ensures drains { let w = wires_view W.fails W.later (W.link wires.old) (W.schedule wires.old) (W.faults wires.old) (W.traffic wires.old) in
+            let v = wires_view W.fails W.later (W.link wires.new) (W.schedule wires.new) (W.faults wires.new) (W.traffic wires.new) in
+            Drains P.port_view self.old w result v self.new }
+        ensures counts { CountsIf (drained_by_link result) (W.faults wires.old) (W.faults wires.new) }
+        ensures consistent { IsConsistentHost P.port_view self.new }
+        ensures worker { KeepsWorker (P.port_view self.old.device.port) (P.port_view self.new.device.port) }
+        ensures rest_unchanged { P.rest self.new.device.port ≡ P.rest self.old.device.port }
+        ensures name { self.new.name ≡ self.old.name }
+        ensures top { self.old.top ≤ self.new.top }
+    {
+        self.parts.drained(wires)
     }
 
     /// Takes a message of the other host, and follows the row of the table of deliveries for it, if one fits. The answer is
@@ -194,9 +219,9 @@ impl<P: Port> Host<P> {
         self.parts.deliver(alloc, m, wires)
     }
 
-    /// Takes the offer back: the guest goes on here, and the Abort is to be sent. `None`, and nothing changes, exactly where
-    /// the side isn't `Offering`. It uses no wires and allocates nothing.
-    pub fn give_up(&mut self) -> Option<Message>
+    /// Takes the offer back: the guest goes on here. An Abort is to be sent where the Offer was made ([`Gave`]). It uses no
+    /// wires and allocates nothing.
+    pub fn give_up(&mut self) -> Gave
         ensures gives_up { GivesUp P.port_view self.old result self.new }
         ensures consistent { IsConsistentHost P.port_view self.new }
         ensures worker { KeepsWorker (P.port_view self.old.device.port) (P.port_view self.new.device.port) }
@@ -215,9 +240,8 @@ impl<P: Port> Host<P> {
     }
 
     /// Writes the record of the device to the beginning of `into`, and gives its length in bytes, 23 to 3991. The device is
-    /// stopped for it, and the guest then goes on. `Stopped`, `Device` and `NotYet` come as from [`Host::offer`], and leave
-    /// `into` as it was.
-    pub fn write_record(&mut self, into: &mut [u8; RECORD_ROOM]) -> Result<usize, OfferFault>
+    /// stopped for it, and the guest then goes on. A [`RecordFault`] says why it isn't written, and leaves `into` as it was.
+    pub fn write_record(&mut self, into: &mut [u8; RECORD_ROOM]) -> Result<usize, RecordFault>
         ensures records { Records P.port_view self.old result into.new self.new }
         ensures within { IfOk result (λ count. count ≤ 3991) }
         ensures untouched { OnErr result (into.new ≡ into.old) }
@@ -294,7 +318,7 @@ impl<P: Port> Host<P> {
         self.parts.fail();
     }
 
-    /// The device as it is, held at every side but `Running`.
+    /// The device as it is, held at every side but `Running` and `Draining`.
     pub fn into_device(self) -> Device<P>
         ensures device { result ≡ self.device }
         ensures consistent { IsConsistentDevice P.port_view result }

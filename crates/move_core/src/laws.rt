@@ -7,11 +7,15 @@ ghost use Rattle.move_core.specs.declared.answers.OfferFault.{OfferFault};
 ghost use Rattle.move_core.specs.Model.{HostModel};
 ghost use Rattle.move_core.specs.declared.side.Side.TheVariants as side;
 ghost use Rattle.move_core.specs.Requests.{WiresView};
-ghost use Rattle.move_core.specs.Sides.{side_of, is_running, is_same};
+ghost use Rattle.move_core.specs.declared.stage.MoveStage.TheVariants as stage;
+ghost use Rattle.move_core.specs.declared.answers.Offered.TheVariants as offered;
+ghost use Rattle.move_core.specs.declared.answers.Gave.{Gave};
+ghost use Rattle.move_core.specs.declared.answers.Gave.TheVariants as gave;
+ghost use Rattle.move_core.specs.Sides.{side_of, is_same};
 ghost use Rattle.move_core.specs.Hosts.{IsConsistentHost};
 ghost use Rattle.move_core.specs.Table.{delivered, ignored, sends};
 ghost use Rattle.move_core.specs.Table.Row.{Ends};
-ghost use Rattle.move_core.specs.Calls.{Follows, Offers, GivesUp, IsAsBefore, IsAsBeforeButTop};
+ghost use Rattle.move_core.specs.Calls.{Follows, Offers, Drains, GivesUp, IsAsBefore, IsAsBeforeButTop};
 
 use crb_machine::stopped_devices_go_on;
 use crb_port::Port;
@@ -20,8 +24,21 @@ use ctrl_client::Wires;
 /// An offer that is refused leaves the host as before, but for an answer that was collected from its port. An offer that was
 /// made and taken back leaves it so too, but for the greatest epoch seen.
 pub fn offers_are_undone<P: Port, W: Wires>()
-    ensures refused { (h new : HostModel P) (w v : WiresView W.Schedule) (f : OfferFault) → IsConsistentHost P.port_view h → is_running h.stage ≡ true → Offers P.port_view h w (Err f) v new → IsAsBefore P.port_view h new }
-    ensures given_up { (h mid new : HostModel P) (w v : WiresView W.Schedule) (m a : Message) → IsConsistentHost P.port_view h → Offers P.port_view h w (Ok m) v mid → GivesUp P.port_view mid (Some a) new → IsAsBeforeButTop P.port_view h new }
+    ensures refused { (h new : HostModel P) (w v : WiresView W.Schedule) (f : OfferFault) → IsConsistentHost P.port_view h → h.stage ≡ stage.Running → Offers P.port_view h w (Err f) v new → IsAsBefore P.port_view h new }
+    ensures given_up { (h mid new : HostModel P) (w v : WiresView W.Schedule) (m a : Message) → IsConsistentHost P.port_view h → Offers P.port_view h w (Ok (offered.Sent m)) v mid → GivesUp P.port_view mid (gave.Abort a) new → IsAsBeforeButTop P.port_view h new }
+{
+    stopped_devices_go_on::<P>();
+}
+
+/// A host that drained and whose offer is refused runs, and is otherwise as it was while it drained, but for the answer that
+/// was collected from its port: the worker's steps in between stay done. So is one whose offer was made and taken back, but
+/// for the greatest epoch seen. One that is given up while it drains runs, sends nothing, and is otherwise the same.
+pub fn draining_is_undone<P: Port, W: Wires>()
+    ensures refused { (h new : HostModel P) (w v : WiresView W.Schedule) (f : OfferFault) → IsConsistentHost P.port_view h → h.stage ≡ stage.Draining → Drains P.port_view h w (Err f) v new
+        → IsAsBefore P.port_view (record h { stage = stage.Running }) new }
+    ensures given_up { (h mid new : HostModel P) (w v : WiresView W.Schedule) (m a : Message) → IsConsistentHost P.port_view h → h.stage ≡ stage.Draining → Drains P.port_view h w (Ok (Some m)) v mid
+        → GivesUp P.port_view mid (gave.Abort a) new → IsAsBeforeButTop P.port_view (record h { stage = stage.Running }) new }
+    ensures undrained { (h new : HostModel P) (answer : Gave) → h.stage ≡ stage.Draining → GivesUp P.port_view h answer new → (answer ≡ gave.Undrained) × (new ≡ record h { stage = stage.Running }) }
 {
     stopped_devices_go_on::<P>();
 }

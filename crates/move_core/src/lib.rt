@@ -1,9 +1,10 @@
 //! One of two hosts between which a virtual TPM moves: a [`Host`] owns the device that its guest sees, and knows its
 //! [`Side`] in the move.
 //!
-//! A move has five steps. The source makes an Offer ([`Host::offer`]). The target asks for the state piece by piece, by
-//! Need and Piece. It says Prepared once its emulator has taken all of it. The source lets go and says Commit, and then
-//! the target runs. Each message is given to its receiver by [`Host::deliver`], which follows the one row of the table
+//! A move has five steps. The source makes an Offer ([`Host::offer`]). If a command is claimed then, the source drains: its
+//! guest stops, and the Offer comes from [`Host::drained`] once the command is done. The target asks for the state piece by
+//! piece, by Need and Piece. It says Prepared once its emulator has taken all of it. The source lets go and says Commit, and
+//! then the target runs. Each message is given to its receiver by [`Host::deliver`], which follows the one row of the table
 //! of deliveries (`docs/MIGRATION.md`) for that message at that side, and answers what is to be sent. A source that
 //! waits in vain takes its offer back ([`Host::give_up`]). A target that waits for its Commit says Prepared again
 //! ([`Host::again`]).
@@ -38,7 +39,7 @@ mod side;
 mod stage;
 mod work;
 
-pub use answers::{Delivered, OfferFault};
+pub use answers::{Delivered, Gave, OfferFault, Offered, RecordFault};
 pub use host::Host;
 pub use side::Side;
 pub use stage::MoveStage;

@@ -5,9 +5,9 @@ ghost use Rattle.crb_machine.specs.Over.{IsConsistentDevice, Stops};
 ghost use Rattle.move_core.specs.Requests.{wires_view};
 ghost use Rattle.move_core.specs.Parts.{model_of};
 ghost use Rattle.move_core.specs.Hosts.{IsConsistentHost};
-ghost use Rattle.move_core.specs.Calls.{Offers, OffersHeld, GivesUp, said_again};
+ghost use Rattle.move_core.specs.Calls.{Offers, Drains, OffersHeld, GivesUp, said_again};
 
-use crate::answers::OfferFault;
+use crate::answers::{Gave, OfferFault, Offered};
 use crate::asking::totals;
 use crate::parts::HostParts;
 use crate::stage::MoveStage;
@@ -47,7 +47,7 @@ impl<P: Port> HostParts<P> {
     }
 
     /// As [`Host::offer`](crate::Host::offer).
-    pub fn offer<W: Wires>(&mut self, wires: &mut W) -> Result<Message, OfferFault>
+    pub fn offer<W: Wires>(&mut self, wires: &mut W) -> Result<Offered, OfferFault>
         requires consistent { IsConsistentHost P.port_view (model_of self.old) }
         ensures offers { let w = wires_view W.fails W.later (W.link wires.old) (W.schedule wires.old) (W.faults wires.old) (W.traffic wires.old) in
             let v = wires_view W.fails W.later (W.link wires.new) (W.schedule wires.new) (W.faults wires.new) (W.traffic wires.new) in
@@ -62,19 +62,51 @@ impl<P: Port> HostParts<P> {
             return Err(OfferFault::Stopped);
         }
         if let Err(not_yet) = self.device.stop() {
-            return Err(OfferFault::NotYet {
+            if self.top == u64::MAX {
+                return Err(OfferFault::EpochEnd);
+            }
+            self.stage = MoveStage::Draining;
+            return Ok(Offered::Draining {
                 number: not_yet.number,
             });
         }
-        let answer = self.offer_held(wires);
-        if answer.is_err() {
-            self.device.go_on();
+        match self.offer_held(wires) {
+            Ok(m) => Ok(Offered::Sent(m)),
+            Err(fault) => {
+                self.device.go_on();
+                Err(fault)
+            }
         }
-        answer
+    }
+
+    /// As [`Host::drained`](crate::Host::drained).
+    pub fn drained<W: Wires>(&mut self, wires: &mut W) -> Result<Option<Message>, OfferFault>
+        requires drains { self.old.stage ≡ MoveStage.Draining }
+        requires consistent { IsConsistentHost P.port_view (model_of self.old) }
+        ensures drains { let w = wires_view W.fails W.later (W.link wires.old) (W.schedule wires.old) (W.faults wires.old) (W.traffic wires.old) in
+            let v = wires_view W.fails W.later (W.link wires.new) (W.schedule wires.new) (W.faults wires.new) (W.traffic wires.new) in
+            Drains P.port_view (model_of self.old) w result v (model_of self.new) }
+        ensures consistent { IsConsistentHost P.port_view (model_of self.new) }
+        ensures worker { KeepsWorker (P.port_view self.old.device.port) (P.port_view self.new.device.port) }
+        ensures rest_unchanged { P.rest self.new.device.port ≡ P.rest self.old.device.port }
+        ensures name { self.new.name ≡ self.old.name }
+        ensures top { self.old.top ≤ self.new.top }
+    {
+        if let Err(_not_yet) = self.device.stop() {
+            return Ok(None);
+        }
+        self.stage = MoveStage::Running;
+        match self.offer_held(wires) {
+            Ok(m) => Ok(Some(m)),
+            Err(fault) => {
+                self.device.go_on();
+                Err(fault)
+            }
+        }
     }
 
     /// As [`Host::give_up`](crate::Host::give_up).
-    pub fn give_up(&mut self) -> Option<Message>
+    pub fn give_up(&mut self) -> Gave
         requires consistent { IsConsistentHost P.port_view (model_of self.old) }
         ensures gives_up { GivesUp P.port_view (model_of self.old) result (model_of self.new) }
         ensures consistent { IsConsistentHost P.port_view (model_of self.new) }
@@ -83,11 +115,17 @@ impl<P: Port> HostParts<P> {
         ensures name { self.new.name ≡ self.old.name }
         ensures top { self.old.top ≤ self.new.top }
     {
-        let MoveStage::Offering { epoch, .. } = self.stage else {
-            return None;
-        };
-        self.resume();
-        Some(self.message(epoch, Body::Abort))
+        match self.stage {
+            MoveStage::Offering { epoch, .. } => {
+                self.resume();
+                Gave::Abort(self.message(epoch, Body::Abort))
+            }
+            MoveStage::Draining => {
+                self.stage = MoveStage::Running;
+                Gave::Undrained
+            }
+            _ => Gave::NotOffering,
+        }
     }
 
     /// As [`Host::again`](crate::Host::again).

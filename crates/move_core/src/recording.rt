@@ -5,7 +5,7 @@ ghost use Rattle.move_core.specs.Hosts.{IsConsistentHost};
 ghost use Rattle.move_core.specs.Parts.{model_of};
 ghost use Rattle.move_core.specs.Recording.{Records};
 
-use crate::answers::OfferFault;
+use crate::answers::RecordFault;
 use crate::parts::HostParts;
 use crb_port::Port;
 use crb_regs::Phase;
@@ -13,7 +13,7 @@ use device_record::{RECORD_ROOM, write_record};
 
 impl<P: Port> HostParts<P> {
     /// As [`Host::write_record`](crate::Host::write_record).
-    pub fn write_record(&mut self, into: &mut [u8; RECORD_ROOM]) -> Result<usize, OfferFault>
+    pub fn write_record(&mut self, into: &mut [u8; RECORD_ROOM]) -> Result<usize, RecordFault>
         requires consistent { IsConsistentHost P.port_view (model_of self.old) }
         ensures records { Records P.port_view (model_of self.old) result into.new (model_of self.new) }
         ensures within { IfOk result (λ count. count ≤ 3991) }
@@ -24,16 +24,16 @@ impl<P: Port> HostParts<P> {
         ensures others { model_of self.new ≡ record (model_of self.old) { device = self.new.device } }
     {
         if !self.stage.is_running() {
-            return Err(OfferFault::Stopped);
+            return Err(RecordFault::Stopped);
         }
         if let Err(not_yet) = self.device.stop() {
-            return Err(OfferFault::NotYet {
+            return Err(RecordFault::NotYet {
                 number: not_yet.number,
             });
         }
         if let Phase::Lost = self.device.phase() {
             self.device.go_on();
-            return Err(OfferFault::Device);
+            return Err(RecordFault::Device);
         }
         let count = write_record(&self.device, into);
         self.device.go_on();

@@ -10,6 +10,8 @@ use move_codec::Part;
 pub enum MoveStage {
     Empty,
     Running,
+    /// A command is claimed and unfinished, or its answer is still in the port.
+    Draining,
     /// An offer of parts with these lengths, in bytes, in the order of [`Part`].
     Offering {
         epoch: u64,
@@ -38,6 +40,7 @@ impl MoveStage {
         match self {
             MoveStage::Empty => Side::Empty,
             MoveStage::Running => Side::Running,
+            MoveStage::Draining => Side::Draining,
             MoveStage::Offering { epoch, .. } => Side::Offering(epoch),
             MoveStage::Released { epoch } => Side::Released(epoch),
             MoveStage::Filling { epoch, .. } => Side::Filling(epoch),
@@ -56,6 +59,9 @@ impl MoveStage {
     pub fn is_active(self) -> bool
         ensures { result ≡ is_active self }
     {
-        matches!(self, MoveStage::Running | MoveStage::Offering { .. })
+        matches!(
+            self,
+            MoveStage::Running | MoveStage::Draining | MoveStage::Offering { .. }
+        )
     }
 }

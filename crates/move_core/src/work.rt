@@ -56,7 +56,7 @@ impl<P: Port> PortModel for Host<P> {
 }
 
 impl<P: Port + WorkPort> WorkPort for Host<P> {
-    /// Claims the job that waits at the device's port. `None` where none waits, and where the guest doesn't run here.
+    /// Claims the job that waits at the device's port. `None` where none waits, and where the device is held.
     fn claim(&mut self) -> Option<Job>
         ensures stopped { holds_device self.old.stage ≡ true → result ≡ None }
         ensures claims { Claims (P.port_view self.old.device.port) result (P.port_view self.new.device.port) }
