@@ -346,7 +346,7 @@ fn values_are_printed_in_hexadecimal(rt: HostRuntime) -> Result<(), Fail> {
 }
 
 // A reply that is no value, and its text.
-const TEXTS: [(Reply, &[u8]); 27] = [
+const TEXTS: [(Reply, &[u8]); 32] = [
     (Reply::Stopped, b"stopped\n"),
     (Reply::Accepted, b"ok\n"),
     (Reply::Idle, b"idle\n"),
@@ -372,6 +372,25 @@ const TEXTS: [(Reply, &[u8]); 27] = [
         },
         b"offered 2 sent 12\n",
     ),
+    (Reply::Draining(3), b"draining 3\n"),
+    (
+        Reply::DoneOffered {
+            number: 1,
+            epoch: 2,
+            message: 12,
+        },
+        b"done 1 offered 2 sent 12\n",
+    ),
+    (Reply::DoneLink(4), b"done 4 link\n"),
+    (
+        Reply::CancelledOffered {
+            number: 5,
+            epoch: 1,
+            message: 0,
+        },
+        b"cancelled 5 offered 1 sent 0\n",
+    ),
+    (Reply::CancelledLink(6), b"cancelled 6 link\n"),
     (Reply::NoMessage, b"no message\n"),
     (Reply::Ignored, b"ignored\n"),
     (Reply::Took, b"took\n"),

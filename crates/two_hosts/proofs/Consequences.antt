@@ -21,6 +21,7 @@ passive_off (stage.Released e) is = refl
 passive_off (stage.Filling e totals part place) is = refl
 passive_off (stage.Prepared e) is = refl
 passive_off stage.Running is = absurd is
+passive_off stage.Draining is = absurd is
 passive_off (stage.Offering e totals) is = absurd is
 
 released_off : (y : MoveStage) (e : ℕ) → side_of y ≡ Released e → is_active y ≡ false
@@ -29,11 +30,13 @@ released_off stage.Empty e is = refl
 released_off (stage.Filling d totals part place) e is = refl
 released_off (stage.Prepared d) e is = refl
 released_off stage.Running e is = absurd cc
+released_off stage.Draining e is = absurd cc
 released_off (stage.Offering d totals) e is = absurd cc
 
 -- the other host never runs or offers
 rest_off : (x y : MoveStage) → IsHolder (side_of x) (side_of y) → is_active y ≡ false
 rest_off stage.Running y h = passive_off y h
+rest_off stage.Draining y h = passive_off y h
 rest_off (stage.Offering e totals) y h = passive_off y h.0
 rest_off (stage.Prepared e) y h = released_off y e h
 rest_off stage.Empty y h = absurd h
@@ -43,6 +46,7 @@ rest_off (stage.Filling e totals part place) y h = absurd h
 handed : (x y : MoveStage) → IsHolder (side_of x) (side_of y) → is_active x ≡ false → IsHandedOver (side_of y) (side_of x)
 handed (stage.Prepared e) y h off = subst (λ s. IsHandedOver s (Prepared e)) (sym h) refl
 handed stage.Running y h off = absurd cc
+handed stage.Draining y h off = absurd cc
 handed (stage.Offering e totals) y h off = absurd cc
 handed stage.Empty y h off = absurd h
 handed (stage.Released e) y h off = absurd h

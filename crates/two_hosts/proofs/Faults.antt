@@ -45,6 +45,7 @@ module _ (me : HostName) (piece : ℕ) (offered : ℕ → Snapshot) (sent : List
   need_works (stage.Offering d totals) part offset = cond_both (d == e && nat_lt offset (total_of totals part)) _ _ WorkerStep (λ yes. refl) (λ no. refl)
   need_works stage.Empty part offset = refl
   need_works stage.Running part offset = refl
+  need_works stage.Draining part offset = refl
   need_works (stage.Released d) part offset = refl
   need_works (stage.Filling d totals next place) part offset = refl
   need_works (stage.Prepared d) part offset = refl
@@ -58,6 +59,7 @@ module _ (me : HostName) (piece : ℕ) (offered : ℕ → Snapshot) (sent : List
       full_end None = refl
   piece_works stage.Empty part offset bytes = refl
   piece_works stage.Running part offset bytes = refl
+  piece_works stage.Draining part offset bytes = refl
   piece_works (stage.Offering d totals) part offset bytes = refl
   piece_works (stage.Released d) part offset bytes = refl
   piece_works (stage.Prepared d) part offset bytes = refl
@@ -67,6 +69,7 @@ module _ (me : HostName) (piece : ℕ) (offered : ℕ → Snapshot) (sent : List
   prepared_works (stage.Released d) = cond_both (d == e) _ _ WorkerStep (λ yes. refl) (λ no. refl)
   prepared_works stage.Empty = refl
   prepared_works stage.Running = refl
+  prepared_works stage.Draining = refl
   prepared_works (stage.Filling d totals part place) = refl
   prepared_works (stage.Prepared d) = refl
 
@@ -74,6 +77,7 @@ module _ (me : HostName) (piece : ℕ) (offered : ℕ → Snapshot) (sent : List
   commit_works (stage.Prepared d) = cond_both (d == e) _ _ WorkerStep (λ yes. refl) (λ no. refl)
   commit_works stage.Empty = refl
   commit_works stage.Running = refl
+  commit_works stage.Draining = refl
   commit_works (stage.Offering d totals) = refl
   commit_works (stage.Released d) = refl
   commit_works (stage.Filling d totals part place) = refl
@@ -83,6 +87,7 @@ module _ (me : HostName) (piece : ℕ) (offered : ℕ → Snapshot) (sent : List
   abort_works (stage.Prepared d) = cond_both (d == e) _ _ WorkerStep (λ yes. refl) (λ no. refl)
   abort_works stage.Empty = refl
   abort_works stage.Running = refl
+  abort_works stage.Draining = refl
   abort_works (stage.Offering d totals) = refl
   abort_works (stage.Released d) = refl
 
@@ -90,6 +95,7 @@ module _ (me : HostName) (piece : ℕ) (offered : ℕ → Snapshot) (sent : List
   refuse_works (stage.Offering d totals) = cond_both (d == e) _ _ WorkerStep (λ yes. refl) (λ no. refl)
   refuse_works stage.Empty = refl
   refuse_works stage.Running = refl
+  refuse_works stage.Draining = refl
   refuse_works (stage.Released d) = refl
   refuse_works (stage.Filling d totals part place) = refl
   refuse_works (stage.Prepared d) = refl
@@ -131,6 +137,7 @@ module _ (me : HostName) (piece : ℕ) (offered : ℕ → Snapshot) (sent : List
   need_fails (stage.Offering d totals) part offset some = need_by part offset (d == e && nat_lt offset (total_of totals part)) some
   need_fails stage.Empty part offset some = absurd cc
   need_fails stage.Running part offset some = absurd cc
+  need_fails stage.Draining part offset some = absurd cc
   need_fails (stage.Released d) part offset some = absurd cc
   need_fails (stage.Filling d totals next place) part offset some = absurd cc
   need_fails (stage.Prepared d) part offset some = absurd cc
@@ -143,6 +150,7 @@ module _ (me : HostName) (piece : ℕ) (offered : ℕ → Snapshot) (sent : List
   piece_fails (stage.Filling d totals next place) part offset bytes some = piece_by part offset bytes totals next (place + length bytes) (d == e && is_next totals next place part offset (length bytes)) some
   piece_fails stage.Empty part offset bytes some = absurd cc
   piece_fails stage.Running part offset bytes some = absurd cc
+  piece_fails stage.Draining part offset bytes some = absurd cc
   piece_fails (stage.Offering d totals) part offset bytes some = absurd cc
   piece_fails (stage.Released d) part offset bytes some = absurd cc
   piece_fails (stage.Prepared d) part offset bytes some = absurd cc

@@ -30,7 +30,7 @@ IsOfDevice reply.NotYet = Unit {0}
 IsOfDevice reply.Reset = Unit {0}
 IsOfDevice _ = ⊥
 
-turned_at : (s : JobStage) (x : WorkerReplyInputs) (fails : ℕ → Bool) → IsOfDevice (worker_reply_at s x fails)
+pub turned_at : (s : JobStage) (x : WorkerReplyInputs) (fails : ℕ → Bool) → IsOfDevice (worker_reply_at s x fails)
 turned_at Waiting x fails = tt
 turned_at Claimed x fails = cond_both x.held (reply.Cancelled x.number) _ IsOfDevice (λ yes. tt) (λ no. cond_both (fails 1) (reply.Lost x.number) (reply.Sent x.number) IsOfDevice (λ yes. tt) (λ no. tt))
 turned_at HasSent x fails = cond_both (fails 1) (reply.Lost x.number) (reply.Exec x.number) IsOfDevice (λ yes. tt) (λ no. tt)

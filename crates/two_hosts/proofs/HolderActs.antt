@@ -1,5 +1,5 @@
 -- What is kept where the holder gets a message, offers, gives up or says again that it is prepared.
-use Rattle.std.proofs.Common.{◌≡◌, ◌≢◌, ℕ, ◌+◌, ◌≤◌, ◌⊎◌, inl, inr, Bool, false, List, [], ◌∷◌, ◌++◌, length, take, drop, refl, sym, ◌∙◌, ap, subst, arith, append-nil}
+use Rattle.std.proofs.Common.{◌≡◌, ◌≢◌, ℕ, ◌+◌, ◌≤◌, ◌⊎◌, inl, inr, Bool, true, false, List, [], ◌∷◌, ◌++◌, length, take, drop, refl, sym, ◌∙◌, ap, subst, arith, append-nil}
 use Rattle.std.specs.Prelude.{nat_lt, ◌==◌}
 use Rattle.std.proofs.lemmas.Bool.{cond_both, eqb-true, ltb-true, eq-eqb, ne_eqb, cond-true, cond-false}
 use Rattle.std.proofs.lemmas.List.{take_min, length-take}
@@ -13,13 +13,13 @@ use Rattle.move_codec.specs.declared.message.Body.TheVariants as body
 use Rattle.move_core.specs.declared.stage.MoveStage.{MoveStage}
 use Rattle.move_core.specs.declared.stage.MoveStage.TheVariants as stage
 use Rattle.move_core.specs.declared.side.Side.TheVariants.{Offering, Released, Prepared}
-use Rattle.move_core.specs.Sides.{is_running, side_of}
+use Rattle.move_core.specs.Sides.{holds_device, side_of}
 use Rattle.move_core.specs.Messages.{message_from}
 use Rattle.two_hosts.specs.Parts.{part_bytes, totals_of}
 use Rattle.two_hosts.specs.Deliveries.{SideState, Outcome, DeliveryContext, ignored as ignores, delivered, on_offer, on_need, on_piece, on_prepared, on_commit, on_abort, on_refuse, gives, at_stage}
 use Rattle.two_hosts.specs.Hosts.{message_in, with_offer}
-use Rattle.two_hosts.specs.Invariant.{shown_side, IsPassive, MatchesOffer, Sides, Says, Clash, PairInvariant}
-use Rattle.two_hosts.proofs.Frames.{Carries, kept_quiet, kept_sent}
+use Rattle.two_hosts.specs.Invariant.{shown_side, IsPassive, IsHolder, MatchesOffer, Sides, Says, Clash, PairInvariant}
+use Rattle.two_hosts.proofs.Frames.{Carries, kept_as, kept_quiet, kept_sent}
 
 -- what is kept after an answer of the holder: it still holds, or the other host does
 pub record HolderLed (n k : HostName) (y : SideState) (offered : ℕ → Snapshot) (Present : Snapshot → Type 0) (sent : List Message) (after : Outcome) : Type 0 where
@@ -63,6 +63,7 @@ module _ (n k : HostName) (x y : SideState) (offered : ℕ → Snapshot) (Presen
   need_led (stage.Offering epoch totals) e part offset is le = cond_both _ _ _ Led (λ yes. gives_led e part offset le) (λ no. ignored)
   need_led stage.Empty e part offset is le = ignored
   need_led stage.Running e part offset is le = ignored
+  need_led stage.Draining e part offset is le = ignored
   need_led (stage.Released epoch) e part offset is le = ignored
   need_led (stage.Filling epoch totals next place) e part offset is le = ignored
   need_led (stage.Prepared epoch) e part offset is le = ignored
@@ -71,6 +72,7 @@ module _ (n k : HostName) (x y : SideState) (offered : ℕ → Snapshot) (Presen
   piece_led (stage.Filling epoch totals next place) e part offset bytes is = absurd (let wrong : ⊥ = rw is at old.sides.holds in wrong)
   piece_led stage.Empty e part offset bytes is = ignored
   piece_led stage.Running e part offset bytes is = ignored
+  piece_led stage.Draining e part offset bytes is = ignored
   piece_led (stage.Offering epoch totals) e part offset bytes is = ignored
   piece_led (stage.Released epoch) e part offset bytes is = ignored
   piece_led (stage.Prepared epoch) e part offset bytes is = ignored
@@ -82,7 +84,7 @@ module _ (n k : HostName) (x y : SideState) (offered : ℕ → Snapshot) (Presen
       let mine : (x.top ≡ e) × (totals ≡ totals_of (offered e)) = subst (λ s. MatchesOffer offered s x.top) is old.sides.holder in
       let theirs : y.top ≡ e = prepared_top y.stage prepared old.sides.rest in
       kept_sent old
-      (record { holds = rw prepared refl; order = omega arith; holder = old.sides.rest; rest = mine.0; same = λ not. subst (λ top. Present (offered top)) (mine.0 ∙ sym theirs) (old.sides.same (ap is_running is)) })
+      (record { holds = rw prepared refl; order = omega arith; holder = old.sides.rest; rest = mine.0; same = λ not. subst (λ top. Present (offered top)) (mine.0 ∙ sym theirs) (old.sides.same (ap holds_device is)) })
       (record {
         top = omega arith;
         parts = λ d le. refl;
@@ -98,6 +100,7 @@ module _ (n k : HostName) (x y : SideState) (offered : ℕ → Snapshot) (Presen
       prepared_top (stage.Prepared d) at seated = let same : d ≡ e = cc in seated ∙ same
       prepared_top stage.Empty at seated = absurd cc
       prepared_top stage.Running at seated = absurd cc
+      prepared_top stage.Draining at seated = absurd cc
       prepared_top (stage.Offering d totals) at seated = absurd cc
       prepared_top (stage.Released d) at seated = absurd cc
       prepared_top (stage.Filling d totals part place) at seated = absurd cc
@@ -118,6 +121,7 @@ module _ (n k : HostName) (x y : SideState) (offered : ℕ → Snapshot) (Presen
   prepared_led (stage.Released epoch) e is says = absurd (let wrong : ⊥ = rw is at old.sides.holds in wrong)
   prepared_led stage.Empty e is says = ignored
   prepared_led stage.Running e is says = ignored
+  prepared_led stage.Draining e is says = ignored
   prepared_led (stage.Filling epoch totals next place) e is says = ignored
   prepared_led (stage.Prepared epoch) e is says = ignored
 
@@ -128,6 +132,7 @@ module _ (n k : HostName) (x y : SideState) (offered : ℕ → Snapshot) (Presen
       (λ no. ignored)
   commit_led stage.Empty e is = ignored
   commit_led stage.Running e is = ignored
+  commit_led stage.Draining e is = ignored
   commit_led (stage.Offering epoch totals) e is = ignored
   commit_led (stage.Released epoch) e is = ignored
   commit_led (stage.Filling epoch totals next place) e is = ignored
@@ -139,6 +144,7 @@ module _ (n k : HostName) (x y : SideState) (offered : ℕ → Snapshot) (Presen
   abort_led (stage.Filling epoch totals next place) e is says = absurd (let wrong : ⊥ = rw is at old.sides.holds in wrong)
   abort_led stage.Empty e is says = ignored
   abort_led stage.Running e is says = ignored
+  abort_led stage.Draining e is says = ignored
   abort_led (stage.Offering epoch totals) e is says = ignored
   abort_led (stage.Released epoch) e is says = ignored
 
@@ -148,6 +154,7 @@ module _ (n k : HostName) (x y : SideState) (offered : ℕ → Snapshot) (Presen
       (λ no. ignored)
   refuse_led stage.Empty e is = ignored
   refuse_led stage.Running e is = ignored
+  refuse_led stage.Draining e is = ignored
   refuse_led (stage.Released epoch) e is = ignored
   refuse_led (stage.Filling epoch totals next place) e is = ignored
   refuse_led (stage.Prepared epoch) e is = ignored
@@ -188,10 +195,34 @@ module _ (n k : HostName) (x y : SideState) (offered : ℕ → Snapshot) (Presen
       let at : shown_side x ≡ Prepared e = ap side_of is in
       kept_sent old old.sides (unchanged n k x y offered Present sent old 0 false) _ (record { epoch = omega arith; says = λ own wrong. absurd (let both : Prepared e ≡ Offering e = sym at ∙ wrong in cc) }) (λ d f clash. absurd clash)
 
-  -- a running holder goes on in its history: what it has is looked at again once it offers
-  pub works_on : (New : Snapshot → Type 0) → x.stage ≡ stage.Running → PairInvariant n k x y offered New sent
+  -- beside a holder that runs or drains the other host is passive
+  beside : (g : MoveStage) → holds_device g ≡ false → IsHolder (side_of g) (shown_side y) → IsPassive (shown_side y)
+  beside stage.Running is holds = holds
+  beside stage.Draining is holds = holds
+  beside stage.Empty is holds = absurd cc
+  beside (stage.Offering e totals) is holds = absurd cc
+  beside (stage.Released e) is holds = absurd cc
+  beside (stage.Filling e totals part place) is holds = absurd cc
+  beside (stage.Prepared e) is holds = absurd cc
+
+  -- a running holder drains, or one that drained runs again
+  pub turned : (g : MoveStage) → holds_device g ≡ false → holds_device x.stage ≡ false → PairInvariant n k (at_stage x g) y offered Present sent
+  turned stage.Running now was = kept_as old
+      (record { holds = beside x.stage was old.sides.holds; order = old.sides.order; holder = tt; rest = old.sides.rest; same = λ not. absurd cc })
+      (record { top = omega arith; parts = λ e le. refl; prepared = λ to e le h own wrong. absurd cc; commit = λ to e le h. (λ wrong. absurd cc, h.1); abort = λ to e le h. (λ wrong. absurd cc, h.1) })
+  turned stage.Draining now was = kept_as old
+      (record { holds = beside x.stage was old.sides.holds; order = old.sides.order; holder = tt; rest = old.sides.rest; same = λ not. absurd cc })
+      (record { top = omega arith; parts = λ e le. refl; prepared = λ to e le h own wrong. absurd cc; commit = λ to e le h. (λ wrong. absurd cc, h.1); abort = λ to e le h. (λ wrong. absurd cc, h.1) })
+  turned stage.Empty now was = absurd cc
+  turned (stage.Offering e totals) now was = absurd cc
+  turned (stage.Released e) now was = absurd cc
+  turned (stage.Filling e totals part place) now was = absurd cc
+  turned (stage.Prepared e) now was = absurd cc
+
+  -- a holder that runs or drains goes on in its history: what it has is looked at again once it offers
+  pub works_on : (New : Snapshot → Type 0) → holds_device x.stage ≡ false → PairInvariant n k x y offered New sent
   works_on New is = record {
-    sides = record { holds = old.sides.holds; order = old.sides.order; holder = old.sides.holder; rest = old.sides.rest; same = λ not. let both : _ = sym not ∙ ap is_running is in absurd cc };
+    sides = record { holds = old.sides.holds; order = old.sides.order; holder = old.sides.holder; rest = old.sides.rest; same = λ not. let both : true ≡ false = sym not ∙ is in absurd cc };
     each = old.each;
     apart = old.apart;
   }
@@ -206,16 +237,17 @@ module _ (n k : HostName) (x y : SideState) (offered : ℕ → Snapshot) (Presen
     seated_before : (s : MoveStage) → MatchesOffer offered s y.top → MatchesOffer (with_offer offered (x.top + 1) new) s y.top
     seated_before stage.Empty h = h
     seated_before stage.Running h = h
+    seated_before stage.Draining h = h
     seated_before (stage.Offering e totals) h = (h.0, h.1 ∙ ap totals_of (sym (noted_before e (omega (arith, old.sides.order, h.0)))))
     seated_before (stage.Released e) h = h
     seated_before (stage.Filling e totals part place) h = (h.0, h.1 ∙ ap totals_of (sym (noted_before e (omega (arith, old.sides.order, h.0)))))
     seated_before (stage.Prepared e) h = h
 
-    -- a running holder offers
-    pub offered_next : x.stage ≡ stage.Running → Present new
+    -- a holder that runs or drained offers
+    pub offered_next : holds_device x.stage ≡ false → Present new
         → PairInvariant n k (record { stage = stage.Offering (x.top + 1) (totals_of new); top = x.top + 1 }) y (with_offer offered (x.top + 1) new) Present (sent ++ message_from n (x.top + 1) (body.Offer (totals_of new)) ∷ [])
     offered_next is present =
-        let passive : IsPassive (shown_side y) = rw is at old.sides.holds in
+        let passive : IsPassive (shown_side y) = beside x.stage is old.sides.holds in
         kept_sent {x' = record { stage = stage.Offering (x.top + 1) (totals_of new); top = x.top + 1 }} old
         (record {
           holds = (passive, λ wrong. absurd (released_top y.stage wrong old.sides.rest));
@@ -239,6 +271,7 @@ module _ (n k : HostName) (x y : SideState) (offered : ℕ → Snapshot) (Presen
         released_top (stage.Released d) at seated = let same : d ≡ x.top + 1 = cc in omega (arith, old.sides.order, seated)
         released_top stage.Empty at seated = cc
         released_top stage.Running at seated = cc
+        released_top stage.Draining at seated = cc
         released_top (stage.Offering d totals) at seated = cc
         released_top (stage.Filling d totals part place) at seated = cc
         released_top (stage.Prepared d) at seated = cc

@@ -18,5 +18,7 @@ pub mod Frames
 pub mod HolderActs
 pub mod RestActs
 pub mod InvariantKept
+pub mod DrainKept
+pub mod DrainEnds
 pub mod Consequences
 pub mod OneRun

@@ -8,13 +8,15 @@ use Rattle.vt_script.specs.declared.reply.Reply.{Reply}
 use Rattle.crb_history.specs.Snapshot.{Snapshot}
 use Rattle.crb_history.specs.Event.{History}
 use Rattle.crb_history.specs.Legal.{Legal}
-use Rattle.vt_transcript.specs.Replies.{IsReplyTo, worker_reply, ask_reply, reset_reply, with_event, Exchange, line_of, Transcript}
+use Rattle.vt_transcript.specs.Replies.{IsReplyTo, ask_reply, reset_reply, with_event, Exchange, line_of, Transcript}
 use Rattle.vt_base.specs.declared.types.HostName.{HostName}
 use Rattle.move_codec.specs.declared.message.Message.{Message}
+use Rattle.move_core.specs.declared.stage.MoveStage.{MoveStage}
+use Rattle.move_core.specs.declared.stage.MoveStage.TheVariants as stage
 use Rattle.vt_script.specs.declared.event.Event.TheVariants.{Offer, Deliver, GiveUp, Again, Show}
 use Rattle.vt_script.specs.declared.reply.Reply.TheVariants as reply
-use Rattle.two_hosts.specs.Hosts.{TwoHosts, host_of, running_host, host_where, is_offering, is_prepared, fails_at, guest_line_on_any, after_exchange, after_offer, after_delivery, after_give_up, after_again, message_at, hosts_after}
-use Rattle.two_hosts.specs.Replies.{AnswersIn, AnswersOn, IsRun}
+use Rattle.two_hosts.specs.Hosts.{TwoHosts, host_of, stage_at, running_host, working_host, host_where, is_leaving, is_prepared, fails_at, guest_line_on, guest_line_on_any, worker_part, after_drained, after_work_at, after_work, after_exchange, after_offer, after_delivery, after_give_up, after_again, message_at, hosts_after}
+use Rattle.two_hosts.specs.Replies.{AnswersIn, AnswersOn, AnswersWork, AnswersWorkAt, IsRun}
 
 -- a read or a write, on the host that is found
 values_once : (b : Snapshot) (t : TwoHosts) (n : HostName) (a : Access) (r q : Reply) (fails : ℕ → Bool) → IsReplyTo b t.history fails (Some (line.Access a)) r → IsReplyTo b t.history fails (Some (line.Access a)) q
@@ -47,11 +49,19 @@ on_once : (b : Snapshot) (t : TwoHosts) (found : Option HostName) (l : Event) (d
 on_once b t None l due r q only one two = one ∙ sym two
 on_once b t (Some n) l due r q only one two = only (fails_at (host_of t n)) r one ∙ sym (only (fails_at (host_of t n)) q two)
 
+work_once_at : (b : Snapshot) (t : TwoHosts) (n : HostName) (g : MoveStage) (r q : Reply) → AnswersWorkAt b t n g r → AnswersWorkAt b t n g q → r ≡ q
+work_once_at b t n stage.Draining r q one two = one ∙ sym two
+work_once_at b t n _ r q one two = one ∙ sym two
+
+work_once : (b : Snapshot) (t : TwoHosts) (found : Option HostName) (r q : Reply) → AnswersWork b t found r → AnswersWork b t found q → r ≡ q
+work_once b t None r q one two = one ∙ sym two
+work_once b t (Some n) r q one two = work_once_at b t n (stage_at t n) r q one two
+
 reply_once : (b : Snapshot) (piece : ℕ) (t : TwoHosts) (l : Option Event) (r q : Reply) → AnswersIn b piece t l r → AnswersIn b piece t l q → Legal b (after_exchange b piece t l r).history → Legal b (after_exchange b piece t l q).history → r ≡ q
 reply_once b piece t None r q one two here there = absurd one
 reply_once b piece t (Some (line.Fail host call)) r q one two here there = one ∙ sym two
 reply_once b piece t (Some (line.Access a)) r q one two here there = access_once b t (running_host t) a r q one two here there
-reply_once b piece t (Some line.Work) r q one two here there = on_once b t (running_host t) line.Work (worker_reply b t.history) r q (λ fails x is. is) one two
+reply_once b piece t (Some line.Work) r q one two here there = work_once b t (working_host t) r q one two
 reply_once b piece t (Some line.Ask) r q one two here there = on_once b t (running_host t) line.Ask ask_reply r q (λ fails x is. is) one two
 reply_once b piece t (Some line.Reset) r q one two here there = on_once b t (running_host t) line.Reset (reset_reply b t.history) r q (λ fails x is. is) one two
 reply_once b piece t (Some Offer) r q one two here there = one ∙ sym two
@@ -81,9 +91,27 @@ on_before : (b : Snapshot) (t : TwoHosts) (found : Option HostName) (l : Event) 
 on_before b t None l r h = h
 on_before b t (Some n) l r h = event_before b l r (fails_at (host_of t n)) t.history h
 
+-- what follows the worker's step adds no event
+drained_before : (b : Snapshot) (t : TwoHosts) (n : HostName) (r : Reply) → Legal b (after_drained b t n r).history → Legal b t.history
+drained_before b t n (reply.DoneOffered k e m) h = h
+drained_before b t n (reply.CancelledOffered k e m) h = h
+drained_before b t n (reply.DoneLink k) h = h
+drained_before b t n (reply.CancelledLink k) h = h
+drained_before b t n (reply.Lost k) h = h
+drained_before b t n _ h = h
+
+work_before_at : (b : Snapshot) (t : TwoHosts) (n : HostName) (g : MoveStage) (r : Reply) → Legal b (after_work_at b t n g r).history → Legal b t.history
+work_before_at b t n stage.Draining r h = event_before b line.Work (worker_part r) (fails_at (host_of t n)) t.history (drained_before b (guest_line_on b t n line.Work (worker_part r)) n r h)
+work_before_at b t n _ r h = event_before b line.Work r (fails_at (host_of t n)) t.history h
+
+work_before : (b : Snapshot) (t : TwoHosts) (found : Option HostName) (r : Reply) → Legal b (after_work b t found r).history → Legal b t.history
+work_before b t None r h = h
+work_before b t (Some n) r h = work_before_at b t n (stage_at t n) r h
+
 offers_before : (b : Snapshot) (t : TwoHosts) (found : Option HostName) (r : Reply) → Legal b (after_offer b t found r).history → Legal b t.history
 offers_before b t None r h = h
 offers_before b t (Some n) (reply.Offered e m) h = h
+offers_before b t (Some n) (reply.Draining k) h = h
 offers_before b t (Some n) _ h = h
 
 comes_before : (b : Snapshot) (piece : ℕ) (t : TwoHosts) (found : Option Message) (r : Reply) → Legal b (after_delivery piece t found r).history → Legal b t.history
@@ -102,12 +130,12 @@ exchange_before : (b : Snapshot) (piece : ℕ) (t : TwoHosts) (l : Option Event)
 exchange_before b piece t None r h = h
 exchange_before b piece t (Some (line.Fail host call)) r h = event_before b (line.Fail host call) r (fails_at (host_of t host)) t.history h
 exchange_before b piece t (Some (line.Access a)) r h = on_before b t (running_host t) (line.Access a) r h
-exchange_before b piece t (Some line.Work) r h = on_before b t (running_host t) line.Work r h
+exchange_before b piece t (Some line.Work) r h = work_before b t (working_host t) r h
 exchange_before b piece t (Some line.Ask) r h = on_before b t (running_host t) line.Ask r h
 exchange_before b piece t (Some line.Reset) r h = on_before b t (running_host t) line.Reset r h
 exchange_before b piece t (Some Offer) r h = offers_before b t (running_host t) r h
 exchange_before b piece t (Some (Deliver k)) r h = comes_before b piece t (message_at t.sent k) r h
-exchange_before b piece t (Some GiveUp) r h = gives_before b t (host_where is_offering t) h
+exchange_before b piece t (Some GiveUp) r h = gives_before b t (host_where is_leaving t) h
 exchange_before b piece t (Some Again) r h = says_before b t (host_where is_prepared t) h
 exchange_before b piece t (Some (Show k)) r h = h
 

@@ -51,6 +51,7 @@ need_by_call : (x : DeliveryContext) (g : MoveStage) (s : SideState) (e : ℕ) (
 need_by_call x (stage.Offering d totals) s e part offset = cond_both (d == e && nat_lt offset (total_of totals part)) _ _ ByCall (λ yes. cond_both x.fails _ _ ByCall (λ fails. tt) (λ works. tt)) (λ no. tt)
 need_by_call x stage.Empty s e part offset = tt
 need_by_call x stage.Running s e part offset = tt
+need_by_call x stage.Draining s e part offset = tt
 need_by_call x (stage.Released d) s e part offset = tt
 need_by_call x (stage.Filling d totals next place) s e part offset = tt
 need_by_call x (stage.Prepared d) s e part offset = tt
@@ -64,6 +65,7 @@ piece_by_call x (stage.Filling d totals next place) s e part offset bytes = cond
     full_end None = tt
 piece_by_call x stage.Empty s e part offset bytes = tt
 piece_by_call x stage.Running s e part offset bytes = tt
+piece_by_call x stage.Draining s e part offset bytes = tt
 piece_by_call x (stage.Offering d totals) s e part offset bytes = tt
 piece_by_call x (stage.Released d) s e part offset bytes = tt
 piece_by_call x (stage.Prepared d) s e part offset bytes = tt
@@ -73,6 +75,7 @@ prepared_by_call x (stage.Offering d totals) s e = cond_both (d == e) _ _ ByCall
 prepared_by_call x (stage.Released d) s e = cond_both (d == e) _ _ ByCall (λ yes. tt) (λ no. tt)
 prepared_by_call x stage.Empty s e = tt
 prepared_by_call x stage.Running s e = tt
+prepared_by_call x stage.Draining s e = tt
 prepared_by_call x (stage.Filling d totals part place) s e = tt
 prepared_by_call x (stage.Prepared d) s e = tt
 
@@ -80,6 +83,7 @@ commit_by_call : (g : MoveStage) (s : SideState) (e : ℕ) → ByCall (on_commit
 commit_by_call (stage.Prepared d) s e = cond_both (d == e) _ _ ByCall (λ yes. tt) (λ no. tt)
 commit_by_call stage.Empty s e = tt
 commit_by_call stage.Running s e = tt
+commit_by_call stage.Draining s e = tt
 commit_by_call (stage.Offering d totals) s e = tt
 commit_by_call (stage.Released d) s e = tt
 commit_by_call (stage.Filling d totals part place) s e = tt
@@ -89,6 +93,7 @@ abort_by_call (stage.Filling d totals part place) s e = cond_both (d == e) _ _ B
 abort_by_call (stage.Prepared d) s e = cond_both (d == e) _ _ ByCall (λ yes. tt) (λ no. tt)
 abort_by_call stage.Empty s e = tt
 abort_by_call stage.Running s e = tt
+abort_by_call stage.Draining s e = tt
 abort_by_call (stage.Offering d totals) s e = tt
 abort_by_call (stage.Released d) s e = tt
 
@@ -96,6 +101,7 @@ refuse_by_call : (g : MoveStage) (s : SideState) (e : ℕ) → ByCall (on_refuse
 refuse_by_call (stage.Offering d totals) s e = cond_both (d == e) _ _ ByCall (λ yes. tt) (λ no. tt)
 refuse_by_call stage.Empty s e = tt
 refuse_by_call stage.Running s e = tt
+refuse_by_call stage.Draining s e = tt
 refuse_by_call (stage.Released d) s e = tt
 refuse_by_call (stage.Filling d totals part place) s e = tt
 refuse_by_call (stage.Prepared d) s e = tt
@@ -126,6 +132,7 @@ passive_off (stage.Released d) is = refl
 passive_off (stage.Filling d totals part place) is = refl
 passive_off (stage.Prepared d) is = refl
 passive_off stage.Running is = absurd is
+passive_off stage.Draining is = absurd is
 passive_off (stage.Offering d totals) is = absurd is
 
 holder_may : (n k : HostName) (x y : SideState) (offered : ℕ → Snapshot) (e : ℕ) (b : Body) → e ≤ x.top → MayBeTaken x e b

@@ -9,7 +9,7 @@ use Rattle.move_codec.specs.declared.message.Body.{Body}
 use Rattle.move_codec.specs.declared.message.Body.TheVariants as body
 use Rattle.move_core.specs.declared.stage.MoveStage.{MoveStage}
 use Rattle.move_core.specs.declared.stage.MoveStage.TheVariants as stage
-use Rattle.move_core.specs.declared.side.Side.TheVariants.{Empty, Running, Offering, Released, Filling, Prepared}
+use Rattle.move_core.specs.declared.side.Side.TheVariants.{Empty, Running, Draining, Offering, Released, Filling, Prepared}
 use Rattle.move_core.specs.declared.answers.Delivered.TheVariants as delivers
 use Rattle.move_core.specs.Sides.{side_of}
 use Rattle.move_core.specs.Messages.{message_from}
@@ -24,6 +24,7 @@ commit_stale : (g : MoveStage) (s : SideState) (e : ℕ) → s.stage ≡ g → s
 commit_stale (stage.Prepared d) s e is other = cond_both (d == e) _ _ (λ o. o ≡ ignored s) (λ yes. absurd (other (ap side_of is ∙ ap Prepared (eqb-true d e yes)))) (λ no. refl)
 commit_stale stage.Empty s e is other = refl
 commit_stale stage.Running s e is other = refl
+commit_stale stage.Draining s e is other = refl
 commit_stale (stage.Offering d totals) s e is other = refl
 commit_stale (stage.Released d) s e is other = refl
 commit_stale (stage.Filling d totals part place) s e is other = refl
@@ -33,6 +34,7 @@ prepared_stale x (stage.Offering d totals) s e is offering released = cond_both 
 prepared_stale x (stage.Released d) s e is offering released = cond_both (d == e) _ _ (λ o. o ≡ ignored s) (λ yes. absurd (released (ap side_of is ∙ ap Released (eqb-true d e yes)))) (λ no. refl)
 prepared_stale x stage.Empty s e is offering released = refl
 prepared_stale x stage.Running s e is offering released = refl
+prepared_stale x stage.Draining s e is offering released = refl
 prepared_stale x (stage.Filling d totals part place) s e is offering released = refl
 prepared_stale x (stage.Prepared d) s e is offering released = refl
 
@@ -49,6 +51,7 @@ again_committed : (x : DeliveryContext) (g : MoveStage) (s : SideState) (e : ℕ
 again_committed x (stage.Released d) s e is released = let same : d ≡ e = cc in cond-true (d == e) _ _ (eq-eqb d e same)
 again_committed x stage.Empty s e is released = absurd (let wrong : Empty ≡ Released e = sym (ap side_of is) ∙ released in cc)
 again_committed x stage.Running s e is released = absurd (let wrong : Running ≡ Released e = sym (ap side_of is) ∙ released in cc)
+again_committed x stage.Draining s e is released = absurd (let wrong : Draining ≡ Released e = sym (ap side_of is) ∙ released in cc)
 again_committed x (stage.Offering d totals) s e is released = absurd (let wrong : Offering d ≡ Released e = sym (ap side_of is) ∙ released in cc)
 again_committed x (stage.Filling d totals part place) s e is released = absurd (let wrong : Filling d ≡ Released e = sym (ap side_of is) ∙ released in cc)
 again_committed x (stage.Prepared d) s e is released = absurd (let wrong : Prepared d ≡ Released e = sym (ap side_of is) ∙ released in cc)

@@ -14,7 +14,7 @@ use Rattle.move_codec.specs.declared.message.Body.TheVariants as body
 use Rattle.move_core.specs.declared.stage.MoveStage.{MoveStage}
 use Rattle.move_core.specs.declared.stage.MoveStage.TheVariants as stage
 use Rattle.move_core.specs.declared.side.Side.{Side}
-use Rattle.move_core.specs.declared.side.Side.TheVariants.{Empty, Running, Offering, Released, Filling, Prepared}
+use Rattle.move_core.specs.declared.side.Side.TheVariants.{Empty, Running, Draining, Offering, Released, Filling, Prepared}
 use Rattle.move_core.specs.Sides.{is_active, total_of, side_of, part_after, first_bad}
 use Rattle.move_core.specs.Messages.{message_from, is_next}
 use Rattle.two_hosts.specs.Parts.{totals_of}
@@ -32,6 +32,7 @@ pub released_top : (offered : ℕ → Snapshot) (s : MoveStage) (top e : ℕ) �
 released_top offered (stage.Released d) top e at seated = let same : d ≡ e = cc in seated ∙ same
 released_top offered stage.Empty top e at seated = absurd cc
 released_top offered stage.Running top e at seated = absurd cc
+released_top offered stage.Draining top e at seated = absurd cc
 released_top offered (stage.Offering d totals) top e at seated = absurd cc
 released_top offered (stage.Filling d totals part place) top e at seated = absurd cc
 released_top offered (stage.Prepared d) top e at seated = absurd cc
@@ -40,6 +41,7 @@ pub prepared_top : (offered : ℕ → Snapshot) (s : MoveStage) (top e : ℕ) �
 prepared_top offered (stage.Prepared d) top e at seated = let same : d ≡ e = cc in seated ∙ same
 prepared_top offered stage.Empty top e at seated = absurd cc
 prepared_top offered stage.Running top e at seated = absurd cc
+prepared_top offered stage.Draining top e at seated = absurd cc
 prepared_top offered (stage.Offering d totals) top e at seated = absurd cc
 prepared_top offered (stage.Filling d totals part place) top e at seated = absurd cc
 prepared_top offered (stage.Released d) top e at seated = absurd cc
@@ -48,14 +50,16 @@ pub offering_top : (offered : ℕ → Snapshot) (s : MoveStage) (top e : ℕ) �
 offering_top offered (stage.Offering d totals) top e at seated = let same : d ≡ e = cc in seated.0 ∙ same
 offering_top offered stage.Empty top e at seated = absurd cc
 offering_top offered stage.Running top e at seated = absurd cc
+offering_top offered stage.Draining top e at seated = absurd cc
 offering_top offered (stage.Prepared d) top e at seated = absurd cc
 offering_top offered (stage.Filling d totals part place) top e at seated = absurd cc
 offering_top offered (stage.Released d) top e at seated = absurd cc
 
 module _ (n k : HostName) (x y : SideState) (offered : ℕ → Snapshot) (Present : Snapshot → Type 0) (sent : List Message) (old : PairInvariant n k x y offered Present sent) where
-  -- the holder runs or offers, where the other host isn't Released
+  -- the holder runs, drains or offers, where the other host isn't Released
   pub holds_on : (s t : Side) → shown_side x ≡ s → shown_side y ≢ Released x.top → IsPassive t → ((e : ℕ) → t ≢ Released e) → IsHolder s t
   holds_on Running t is left passive new = passive
+  holds_on Draining t is left passive new = passive
   holds_on (Offering e) t is left passive new = (passive, new e)
   holds_on (Prepared e) t is left passive new =
       let holds : shown_side y ≡ Released e = rw is at old.sides.holds in
@@ -64,13 +68,19 @@ module _ (n k : HostName) (x y : SideState) (offered : ℕ → Snapshot) (Presen
   holds_on (Released e) t is left passive new = absurd (let wrong : ⊥ = rw is at old.sides.holds in wrong)
   holds_on (Filling e) t is left passive new = absurd (let wrong : ⊥ = rw is at old.sides.holds in wrong)
 
-  pub never_active : (s : Side) → shown_side x ≡ s → shown_side y ≡ Running ⊎ ((e : ℕ) × (shown_side y ≡ Offering e)) → ⊥
+  pub never_active : (s : Side) → shown_side x ≡ s → shown_side y ≡ Running ⊎ ((shown_side y ≡ Draining) ⊎ ((e : ℕ) × (shown_side y ≡ Offering e))) → ⊥
   never_active Running is (inl at) = let wrong : ⊥ = rw (is, at) at old.sides.holds in wrong
-  never_active Running is (inr at) = let wrong : ⊥ = rw (is, at.1) at old.sides.holds in wrong
+  never_active Running is (inr (inl at)) = let wrong : ⊥ = rw (is, at) at old.sides.holds in wrong
+  never_active Running is (inr (inr at)) = let wrong : ⊥ = rw (is, at.1) at old.sides.holds in wrong
+  never_active Draining is (inl at) = let wrong : ⊥ = rw (is, at) at old.sides.holds in wrong
+  never_active Draining is (inr (inl at)) = let wrong : ⊥ = rw (is, at) at old.sides.holds in wrong
+  never_active Draining is (inr (inr at)) = let wrong : ⊥ = rw (is, at.1) at old.sides.holds in wrong
   never_active (Offering e) is (inl at) = let wrong : ⊥ × (Running ≢ Released e) = rw (is, at) at old.sides.holds in wrong.0
-  never_active (Offering e) is (inr at) = let wrong : ⊥ × (Offering at.0 ≢ Released e) = rw (is, at.1) at old.sides.holds in wrong.0
+  never_active (Offering e) is (inr (inl at)) = let wrong : ⊥ × (Draining ≢ Released e) = rw (is, at) at old.sides.holds in wrong.0
+  never_active (Offering e) is (inr (inr at)) = let wrong : ⊥ × (Offering at.0 ≢ Released e) = rw (is, at.1) at old.sides.holds in wrong.0
   never_active (Prepared e) is (inl at) = let holds : shown_side y ≡ Released e = rw is at old.sides.holds in cc
-  never_active (Prepared e) is (inr at) = let holds : shown_side y ≡ Released e = rw is at old.sides.holds in cc
+  never_active (Prepared e) is (inr (inl at)) = let holds : shown_side y ≡ Released e = rw is at old.sides.holds in cc
+  never_active (Prepared e) is (inr (inr at)) = let holds : shown_side y ≡ Released e = rw is at old.sides.holds in cc
   never_active Empty is at = let wrong : ⊥ = rw is at old.sides.holds in wrong
   never_active (Released e) is at = let wrong : ⊥ = rw is at old.sides.holds in wrong
   never_active (Filling e) is at = let wrong : ⊥ = rw is at old.sides.holds in wrong
@@ -82,14 +92,15 @@ module _ (n k : HostName) (x y : SideState) (offered : ℕ → Snapshot) (Presen
       kept_sent old old.sides (record { top = omega arith; parts = λ e le. refl; prepared = λ to e le h. h; commit = λ to e le h. h; abort = λ to e le h. h }) _
       (record { epoch = omega (arith, old.sides.order, prepared_top offered y.stage y.top e at old.sides.rest); says = λ own offers. at }) (λ d f clash. absurd clash)
 
-  -- the host that doesn't hold never runs or offers
+  -- the host that doesn't hold never runs, drains or offers
   pub rests : (s : Side) → shown_side y ≡ s → IsPassive s
   rests Empty is = tt
   rests (Released e) is = tt
   rests (Filling e) is = tt
   rests (Prepared e) is = tt
   rests Running is = absurd (never_active (shown_side x) refl (inl is))
-  rests (Offering e) is = absurd (never_active (shown_side x) refl (inr (e, is)))
+  rests Draining is = absurd (never_active (shown_side x) refl (inr (inl is)))
+  rests (Offering e) is = absurd (never_active (shown_side x) refl (inr (inr (e, is))))
 
 module _ (n k : HostName) (x y : SideState) (offered : ℕ → Snapshot) (Present : Snapshot → Type 0) (sent : List Message) (old : PairInvariant n k x y offered Present sent) (piece : ℕ) (fails : Bool) where
   abbrev r : DeliveryContext
@@ -101,7 +112,7 @@ module _ (n k : HostName) (x y : SideState) (offered : ℕ → Snapshot) (Presen
   abbrev holds_still : (s t : Side) → shown_side x ≡ s → shown_side y ≢ Released x.top → IsPassive t → ((e : ℕ) → t ≢ Released e) → IsHolder s t
   holds_still = holds_on n k x y offered Present sent old
 
-  abbrev never : shown_side y ≡ Running ⊎ ((e : ℕ) × (shown_side y ≡ Offering e)) → ⊥
+  abbrev never : shown_side y ≡ Running ⊎ ((shown_side y ≡ Draining) ⊎ ((e : ℕ) × (shown_side y ≡ Offering e))) → ⊥
   never = never_active n k x y offered Present sent old (shown_side x) refl
 
   ignored : Led (ignores y)
@@ -150,9 +161,10 @@ module _ (n k : HostName) (x y : SideState) (offered : ℕ → Snapshot) (Presen
       (λ no. ignored)
 
   need_led : (s : MoveStage) (e : ℕ) (part : Part) (offset : ℕ) → y.stage ≡ s → Led (on_need r y s e part offset)
-  need_led (stage.Offering epoch totals) e part offset is = absurd (never (inr (epoch, ap side_of is)))
+  need_led (stage.Offering epoch totals) e part offset is = absurd (never (inr (inr (epoch, ap side_of is))))
   need_led stage.Empty e part offset is = ignored
   need_led stage.Running e part offset is = ignored
+  need_led stage.Draining e part offset is = ignored
   need_led (stage.Released epoch) e part offset is = ignored
   need_led (stage.Filling epoch totals next place) e part offset is = ignored
   need_led (stage.Prepared epoch) e part offset is = ignored
@@ -206,6 +218,7 @@ module _ (n k : HostName) (x y : SideState) (offered : ℕ → Snapshot) (Presen
       (λ no. ignored)
   piece_led stage.Empty e part offset bytes is = ignored
   piece_led stage.Running e part offset bytes is = ignored
+  piece_led stage.Draining e part offset bytes is = ignored
   piece_led (stage.Offering epoch totals) e part offset bytes is = ignored
   piece_led (stage.Released epoch) e part offset bytes is = ignored
   piece_led (stage.Prepared epoch) e part offset bytes is = ignored
@@ -230,9 +243,10 @@ module _ (n k : HostName) (x y : SideState) (offered : ℕ → Snapshot) (Presen
       commits at =
           let at_top : y.top ≡ e = released_top offered y.stage y.top e at old.sides.rest in
           kept_sent old old.sides unchanged _ (record { epoch = le; says = (λ offers. unoffered offers at, λ own. (omega (arith, at_top), λ waits. absurd (let wrong : ⊥ = rw at at waits in wrong))) }) (λ d f clash. apart d d.body f.says clash at)
-  prepared_led (stage.Offering epoch totals) e is le = absurd (never (inr (epoch, ap side_of is)))
+  prepared_led (stage.Offering epoch totals) e is le = absurd (never (inr (inr (epoch, ap side_of is))))
   prepared_led stage.Empty e is le = ignored
   prepared_led stage.Running e is le = ignored
+  prepared_led stage.Draining e is le = ignored
   prepared_led (stage.Filling epoch totals next place) e is le = ignored
   prepared_led (stage.Prepared epoch) e is le = ignored
 
@@ -248,6 +262,7 @@ module _ (n k : HostName) (x y : SideState) (offered : ℕ → Snapshot) (Presen
       (λ no. ignored)
   commit_led stage.Empty e is says = ignored
   commit_led stage.Running e is says = ignored
+  commit_led stage.Draining e is says = ignored
   commit_led (stage.Offering epoch totals) e is says = ignored
   commit_led (stage.Released epoch) e is says = ignored
   commit_led (stage.Filling epoch totals next place) e is says = ignored
@@ -277,13 +292,15 @@ module _ (n k : HostName) (x y : SideState) (offered : ℕ → Snapshot) (Presen
   abort_led (stage.Prepared epoch) e is says = cond_both (epoch == e) _ _ Led (λ yes. record { led = aborted e (inr (ap side_of is ∙ ap Prepared (eqb-true epoch e yes))) says.0 }) (λ no. ignored)
   abort_led stage.Empty e is says = ignored
   abort_led stage.Running e is says = ignored
+  abort_led stage.Draining e is says = ignored
   abort_led (stage.Offering epoch totals) e is says = ignored
   abort_led (stage.Released epoch) e is says = ignored
 
   refuse_led : (s : MoveStage) (e : ℕ) → y.stage ≡ s → Led (on_refuse y s e)
-  refuse_led (stage.Offering epoch totals) e is = absurd (never (inr (epoch, ap side_of is)))
+  refuse_led (stage.Offering epoch totals) e is = absurd (never (inr (inr (epoch, ap side_of is))))
   refuse_led stage.Empty e is = ignored
   refuse_led stage.Running e is = ignored
+  refuse_led stage.Draining e is = ignored
   refuse_led (stage.Released epoch) e is = ignored
   refuse_led (stage.Filling epoch totals next place) e is = ignored
   refuse_led (stage.Prepared epoch) e is = ignored

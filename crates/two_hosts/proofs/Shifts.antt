@@ -8,37 +8,55 @@ use Rattle.move_codec.specs.declared.message.Body.TheVariants as body
 use Rattle.move_core.specs.declared.stage.MoveStage.{MoveStage}
 use Rattle.move_core.specs.declared.stage.MoveStage.TheVariants as stage
 use Rattle.move_core.specs.declared.side.Side.{Side}
-use Rattle.move_core.specs.declared.side.Side.TheVariants.{Empty, Running, Offering, Released, Filling, Prepared}
+use Rattle.move_core.specs.declared.side.Side.TheVariants.{Empty, Running, Draining, Offering, Released, Filling, Prepared}
 use Rattle.move_core.specs.declared.answers.Delivered.{Delivered}
 use Rattle.move_core.specs.declared.answers.Delivered.TheVariants as delivers
-use Rattle.move_core.specs.Sides.{side_of, is_running, is_active, total_of, part_after, first_bad}
+use Rattle.move_core.specs.Sides.{side_of, is_draining, is_active, total_of, part_after, first_bad}
 use Rattle.move_core.specs.Messages.{is_next}
 use Rattle.crb_history.specs.Snapshot.{Snapshot}
 use Rattle.vt_base.specs.declared.types.HostName.{HostName}
 use Rattle.two_hosts.specs.Deliveries.{on_offer, SideState, Outcome, DeliveryContext, ignored, delivered, takes_offer, gives, on_need, goes_to, reaches, on_piece, on_prepared, on_commit, on_abort, on_refuse}
+use Rattle.two_hosts.specs.Hosts.{is_working}
 use Rattle.two_hosts.specs.Invariant.{shown_side}
 
--- the guest runs on this side
+-- the guest runs on this side, or its worker goes on
 abbrev pub runs_on : Side → Bool
 runs_on Running = true
+runs_on Draining = true
 runs_on _ = false
 
 abbrev pub active_on : Side → Bool
 active_on Running = true
+active_on Draining = true
 active_on (Offering e) = true
 active_on _ = false
 
-pub running_on : (s : MoveStage) → is_running s ≡ runs_on (side_of s)
-running_on stage.Empty = refl
-running_on stage.Running = refl
-running_on (stage.Offering e totals) = refl
-running_on (stage.Released e) = refl
-running_on (stage.Filling e totals part place) = refl
-running_on (stage.Prepared e) = refl
+abbrev pub drains_on : Side → Bool
+drains_on Draining = true
+drains_on _ = false
+
+pub working_on : (s : MoveStage) → is_working s ≡ runs_on (side_of s)
+working_on stage.Empty = refl
+working_on stage.Running = refl
+working_on stage.Draining = refl
+working_on (stage.Offering e totals) = refl
+working_on (stage.Released e) = refl
+working_on (stage.Filling e totals part place) = refl
+working_on (stage.Prepared e) = refl
+
+pub draining_on : (s : MoveStage) → is_draining s ≡ drains_on (side_of s)
+draining_on stage.Empty = refl
+draining_on stage.Running = refl
+draining_on stage.Draining = refl
+draining_on (stage.Offering e totals) = refl
+draining_on (stage.Released e) = refl
+draining_on (stage.Filling e totals part place) = refl
+draining_on (stage.Prepared e) = refl
 
 pub is_active_on : (s : MoveStage) → is_active s ≡ active_on (side_of s)
 is_active_on stage.Empty = refl
 is_active_on stage.Running = refl
+is_active_on stage.Draining = refl
 is_active_on (stage.Offering e totals) = refl
 is_active_on (stage.Released e) = refl
 is_active_on (stage.Filling e totals part place) = refl
@@ -77,6 +95,7 @@ need_shift : (x : DeliveryContext) (g : MoveStage) (s : SideState) (e : ℕ) (pa
 need_shift x (stage.Offering d totals) s e part offset = cond_both (d == e && nat_lt offset (total_of totals part)) _ _ (Shift s) (λ yes. piece_given x s e part offset) (λ no. stays s)
 need_shift x stage.Empty s e part offset = stays s
 need_shift x stage.Running s e part offset = stays s
+need_shift x stage.Draining s e part offset = stays s
 need_shift x (stage.Released d) s e part offset = stays s
 need_shift x (stage.Filling d totals next place) s e part offset = stays s
 need_shift x (stage.Prepared d) s e part offset = stays s
@@ -95,6 +114,7 @@ piece_shift x (stage.Filling d totals next place) s e part offset bytes is =
     (λ yes. cond_both x.fails _ _ (Shift s) (λ fails. waits passive tt tt) (λ works. piece_taken x s e totals next (place + length bytes) passive)) (λ no. stays s)
 piece_shift x stage.Empty s e part offset bytes is = stays s
 piece_shift x stage.Running s e part offset bytes is = stays s
+piece_shift x stage.Draining s e part offset bytes is = stays s
 piece_shift x (stage.Offering d totals) s e part offset bytes is = stays s
 piece_shift x (stage.Released d) s e part offset bytes is = stays s
 piece_shift x (stage.Prepared d) s e part offset bytes is = stays s
@@ -104,6 +124,7 @@ prepared_shift x (stage.Offering d totals) s e is = cond_both (d == e) _ _ (Shif
 prepared_shift x (stage.Released d) s e is = cond_both (d == e) _ _ (Shift s) (λ yes. same refl tt) (λ no. stays s)
 prepared_shift x stage.Empty s e is = stays s
 prepared_shift x stage.Running s e is = stays s
+prepared_shift x stage.Draining s e is = stays s
 prepared_shift x (stage.Filling d totals next place) s e is = stays s
 prepared_shift x (stage.Prepared d) s e is = stays s
 
@@ -111,6 +132,7 @@ commit_shift : (g : MoveStage) (s : SideState) (e : ℕ) → s.stage ≡ g → S
 commit_shift (stage.Prepared d) s e is = cond_both (d == e) _ _ (Shift s) (λ yes. runs d (ap side_of is) refl refl) (λ no. stays s)
 commit_shift stage.Empty s e is = stays s
 commit_shift stage.Running s e is = stays s
+commit_shift stage.Draining s e is = stays s
 commit_shift (stage.Offering d totals) s e is = stays s
 commit_shift (stage.Released d) s e is = stays s
 commit_shift (stage.Filling d totals next place) s e is = stays s
@@ -120,6 +142,7 @@ abort_shift (stage.Filling d totals next place) s e is = cond_both (d == e) _ _ 
 abort_shift (stage.Prepared d) s e is = cond_both (d == e) _ _ (Shift s) (λ yes. waits (ap (λ g. active_on (side_of g)) is) tt tt) (λ no. stays s)
 abort_shift stage.Empty s e is = stays s
 abort_shift stage.Running s e is = stays s
+abort_shift stage.Draining s e is = stays s
 abort_shift (stage.Offering d totals) s e is = stays s
 abort_shift (stage.Released d) s e is = stays s
 
@@ -127,6 +150,7 @@ refuse_shift : (g : MoveStage) (s : SideState) (e : ℕ) → s.stage ≡ g → S
 refuse_shift (stage.Offering d totals) s e is = cond_both (d == e) _ _ (Shift s) (λ yes. resumes d (ap side_of is) refl refl) (λ no. stays s)
 refuse_shift stage.Empty s e is = stays s
 refuse_shift stage.Running s e is = stays s
+refuse_shift stage.Draining s e is = stays s
 refuse_shift (stage.Released d) s e is = stays s
 refuse_shift (stage.Filling d totals next place) s e is = stays s
 refuse_shift (stage.Prepared d) s e is = stays s
@@ -142,6 +166,7 @@ shift x s e (body.Offer totals) = cond_both (nat_lt s.top e) _ _ (Shift s)
     is_active_off (stage.Filling d totals next place) off = refl
     is_active_off (stage.Prepared d) off = refl
     is_active_off stage.Running off = off
+    is_active_off stage.Draining off = off
     is_active_off (stage.Offering d totals) off = off
 shift x s e (body.Need part offset) = need_shift x s.stage s e part offset
 shift x s e (body.Piece part offset bytes) = piece_shift x s.stage s e part offset bytes refl
@@ -166,6 +191,7 @@ quiet_need : (x : DeliveryContext) (g : MoveStage) (s : SideState) (e : ℕ) (pa
 quiet_need x (stage.Offering d totals) s e part offset = cond_both (d == e && nat_lt offset (total_of totals part)) _ _ QuietEnd (λ yes. cond_both x.fails _ _ QuietEnd (λ fails. tt) (λ works. tt)) (λ no. tt)
 quiet_need x stage.Empty s e part offset = tt
 quiet_need x stage.Running s e part offset = tt
+quiet_need x stage.Draining s e part offset = tt
 quiet_need x (stage.Released d) s e part offset = tt
 quiet_need x (stage.Filling d totals next place) s e part offset = tt
 quiet_need x (stage.Prepared d) s e part offset = tt
@@ -179,6 +205,7 @@ quiet_piece x (stage.Filling d totals next place) s e part offset bytes = cond_b
     full_end None = tt
 quiet_piece x stage.Empty s e part offset bytes = tt
 quiet_piece x stage.Running s e part offset bytes = tt
+quiet_piece x stage.Draining s e part offset bytes = tt
 quiet_piece x (stage.Offering d totals) s e part offset bytes = tt
 quiet_piece x (stage.Released d) s e part offset bytes = tt
 quiet_piece x (stage.Prepared d) s e part offset bytes = tt
@@ -190,6 +217,7 @@ module _ (me : HostName) (piece : ℕ) (offered : ℕ → Snapshot) (f g : Bool)
   same_prepared : (s : SideState) (k : MoveStage) (e : ℕ) → (on_prepared (x f) s k e).answer ≡ (on_prepared (x g) s k e).answer
   same_prepared s stage.Empty e = refl
   same_prepared s stage.Running e = refl
+  same_prepared s stage.Draining e = refl
   same_prepared s (stage.Offering d totals) e = refl
   same_prepared s (stage.Released d) e = refl
   same_prepared s (stage.Filling d totals part place) e = refl

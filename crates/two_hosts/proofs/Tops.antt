@@ -23,7 +23,7 @@ use Rattle.move_core.specs.Messages.{is_next}
 use Rattle.vt_script.specs.declared.event.Event.TheVariants.{Offer, Deliver, GiveUp, Again, Show}
 use Rattle.vt_script.specs.declared.reply.Reply.TheVariants as reply
 use Rattle.two_hosts.specs.Deliveries.{SideState, Outcome, DeliveryContext, delivered, on_offer, on_need, on_piece, on_prepared, on_commit, on_abort, on_refuse, takes_offer, goes_to, calls_of_delivery}
-use Rattle.two_hosts.specs.Hosts.{TwoHosts, HostState, hosts_after, host_of, with_host, with_outcome, host_where, running_host, is_offering, is_prepared, message_at, fails_at, context_for, counted, after_delivery, after_offer, offered_by, after_give_up, after_again, guest_line_on, guest_line_on_any, after_line, after_exchange}
+use Rattle.two_hosts.specs.Hosts.{TwoHosts, HostState, hosts_after, host_of, stage_at, with_host, with_outcome, host_where, running_host, working_host, is_leaving, is_prepared, worker_part, after_drained, after_work_at, after_work, message_at, fails_at, context_for, counted, after_delivery, after_offer, offered_by, after_give_up, after_again, guest_line_on, guest_line_on_any, after_line, after_exchange}
 use Rattle.two_hosts.specs.Replies.{InTurn, offer_reply}
 use Rattle.two_hosts.specs.Invariant.{HostsInvariant, IsSent, side_at}
 use Rattle.two_hosts.proofs.InvariantKept.{run_kept, in_bag_sent, host_where_cases}
@@ -43,6 +43,7 @@ module _ (s : SideState) (e k : ℕ) (low : s.top ≤ k) where
   need_below x (stage.Offering d totals) part offset = cond_both (d == e && nat_lt offset (total_of totals part)) _ _ Below (λ yes. cond_both x.fails _ _ Below (λ fails. low) (λ works. low)) (λ no. low)
   need_below x stage.Empty part offset = low
   need_below x stage.Running part offset = low
+  need_below x stage.Draining part offset = low
   need_below x (stage.Released d) part offset = low
   need_below x (stage.Filling d totals next place) part offset = low
   need_below x (stage.Prepared d) part offset = low
@@ -56,6 +57,7 @@ module _ (s : SideState) (e k : ℕ) (low : s.top ≤ k) where
       full_end None = low
   piece_below x stage.Empty part offset bytes = low
   piece_below x stage.Running part offset bytes = low
+  piece_below x stage.Draining part offset bytes = low
   piece_below x (stage.Offering d totals) part offset bytes = low
   piece_below x (stage.Released d) part offset bytes = low
   piece_below x (stage.Prepared d) part offset bytes = low
@@ -65,6 +67,7 @@ module _ (s : SideState) (e k : ℕ) (low : s.top ≤ k) where
   prepared_below x (stage.Released d) = cond_both (d == e) _ _ Below (λ yes. low) (λ no. low)
   prepared_below x stage.Empty = low
   prepared_below x stage.Running = low
+  prepared_below x stage.Draining = low
   prepared_below x (stage.Filling d totals part place) = low
   prepared_below x (stage.Prepared d) = low
 
@@ -72,6 +75,7 @@ module _ (s : SideState) (e k : ℕ) (low : s.top ≤ k) where
   commit_below (stage.Prepared d) = cond_both (d == e) _ _ Below (λ yes. low) (λ no. low)
   commit_below stage.Empty = low
   commit_below stage.Running = low
+  commit_below stage.Draining = low
   commit_below (stage.Offering d totals) = low
   commit_below (stage.Released d) = low
   commit_below (stage.Filling d totals part place) = low
@@ -81,6 +85,7 @@ module _ (s : SideState) (e k : ℕ) (low : s.top ≤ k) where
   abort_below (stage.Prepared d) = cond_both (d == e) _ _ Below (λ yes. low) (λ no. low)
   abort_below stage.Empty = low
   abort_below stage.Running = low
+  abort_below stage.Draining = low
   abort_below (stage.Offering d totals) = low
   abort_below (stage.Released d) = low
 
@@ -88,6 +93,7 @@ module _ (s : SideState) (e k : ℕ) (low : s.top ≤ k) where
   refuse_below (stage.Offering d totals) = cond_both (d == e) _ _ Below (λ yes. low) (λ no. low)
   refuse_below stage.Empty = low
   refuse_below stage.Running = low
+  refuse_below stage.Draining = low
   refuse_below (stage.Released d) = low
   refuse_below (stage.Filling d totals part place) = low
   refuse_below (stage.Prepared d) = low
@@ -138,6 +144,8 @@ offered_low v t k B low = record { a = omega (arith, low.a); b = omega (arith, l
 offer_low : (b : Snapshot) (t : TwoHosts) (k : ℕ) (found : Option HostName) (q : Reply) → AreBelow t k → AreBelow (after_offer b t found q) (suc k)
 offer_low b t k None q low = later t k low
 offer_low b t k (Some n) (reply.Offered e m) low = offered_low (snapshot_after b t.history) t k n low
+offer_low b t k (Some A) (reply.Draining number) low = record { a = omega (arith, low.a); b = omega (arith, low.b) }
+offer_low b t k (Some B) (reply.Draining number) low = record { a = omega (arith, low.a); b = omega (arith, low.b) }
 offer_low b t k (Some n) q low = replaced t k n (counted q 0 (host_of t n)) (let le = low_at t k n low in omega (arith, le)) low
 
 give_up_low : (t : TwoHosts) (k : ℕ) (found : Option HostName) → AreBelow t k → AreBelow (after_give_up t found) (suc k)
@@ -157,15 +165,39 @@ any_low : (b : Snapshot) (t : TwoHosts) (k : ℕ) (found : Option HostName) (e :
 any_low b t k None e g low = later t k low
 any_low b t k (Some n) e g low = guest_low b t k n e g low
 
+same_low : (b : Snapshot) (t : TwoHosts) (k : ℕ) (n : HostName) (e : Event) (g : Reply) → AreBelow t k → AreBelow (guest_line_on b t n e g) k
+same_low b t k A e g low = record { a = low.a; b = low.b }
+same_low b t k B e g low = record { a = low.a; b = low.b }
+
+turned_low : (t : TwoHosts) (k : ℕ) (n : HostName) (g : MoveStage) (order : Option ℕ) (calls : ℕ) → AreBelow t k → AreBelow (with_host t n (record { side = record (side_at t n) { stage = g }; injected_fault = order; calls = calls })) (suc k)
+turned_low t k A g order calls low = record { a = omega (arith, low.a); b = omega (arith, low.b) }
+turned_low t k B g order calls low = record { a = omega (arith, low.a); b = omega (arith, low.b) }
+
+drained_low : (b : Snapshot) (t : TwoHosts) (k : ℕ) (n : HostName) (q : Reply) → AreBelow t k → AreBelow (after_drained b t n q) (suc k)
+drained_low b t k n (reply.DoneOffered number e m) low = offered_low (snapshot_after b t.history) t k n low
+drained_low b t k n (reply.CancelledOffered number e m) low = offered_low (snapshot_after b t.history) t k n low
+drained_low b t k n (reply.DoneLink number) low = turned_low t k n stage.Running None ((host_of t n).calls + 0) low
+drained_low b t k n (reply.CancelledLink number) low = turned_low t k n stage.Running None ((host_of t n).calls + 0) low
+drained_low b t k n (reply.Lost number) low = turned_low t k n stage.Running (host_of t n).injected_fault (host_of t n).calls low
+drained_low b t k n q low = later t k low
+
+work_low_at : (b : Snapshot) (t : TwoHosts) (k : ℕ) (n : HostName) (g : MoveStage) (q : Reply) → AreBelow t k → AreBelow (after_work_at b t n g q) (suc k)
+work_low_at b t k n stage.Draining q low = drained_low b (guest_line_on b t n line.Work (worker_part q)) k n q (same_low b t k n line.Work (worker_part q) low)
+work_low_at b t k n _ q low = guest_low b t k n line.Work q low
+
+work_low : (b : Snapshot) (t : TwoHosts) (k : ℕ) (found : Option HostName) (q : Reply) → AreBelow t k → AreBelow (after_work b t found q) (suc k)
+work_low b t k None q low = later t k low
+work_low b t k (Some n) q low = work_low_at b t k n (stage_at t n) q low
+
 line_low : (b : Snapshot) (piece : ℕ) (t : TwoHosts) (k : ℕ) (l : Event) (q : Reply) → HostsInvariant b t → AreBelow t k → AreBelow (after_line b piece t l q) (suc k)
 line_low b piece t k (line.Access a) q kept low = any_low b t k (running_host t) (line.Access a) q low
-line_low b piece t k line.Work q kept low = any_low b t k (running_host t) line.Work q low
+line_low b piece t k line.Work q kept low = work_low b t k (working_host t) q low
 line_low b piece t k line.Ask q kept low = any_low b t k (running_host t) line.Ask q low
 line_low b piece t k line.Reset q kept low = any_low b t k (running_host t) line.Reset q low
 line_low b piece t k (line.Fail host call) q kept low = guest_low b t k host (line.Fail host call) q low
 line_low b piece t k Offer q kept low = offer_low b t k (running_host t) q low
 line_low b piece t k (Deliver j) q kept low = deliver_low b piece t k (message_at t.sent j) q kept low (in_bag_sent t.sent j)
-line_low b piece t k GiveUp q kept low = give_up_low t k (host_where is_offering t) low
+line_low b piece t k GiveUp q kept low = give_up_low t k (host_where is_leaving t) low
 line_low b piece t k Again q kept low = again_low t k (host_where is_prepared t) low
 line_low b piece t k (Show j) q kept low = later t k low
 
@@ -184,8 +216,8 @@ HasEpoch q = q ≢ reply.EpochEnd
 
 some_epoch : (b : Snapshot) (t : TwoHosts) (n : HostName) → (side_at t n).top < 2 ^ 64 - 1 → HasEpoch (offer_reply b t (Some n))
 some_epoch b t n low = cond_both (is_lost (phase_of b t.history)) _ _ HasEpoch (λ yes wrong. cc) (λ no.
-    cond_both (is_under_way b t.history) _ _ HasEpoch (λ yes wrong. cc) (λ no.
     cond_both ((host_of t n).side.top == 2 ^ 64 - 1) _ _ HasEpoch (λ yes. absurd (let same : (side_at t n).top ≡ 2 ^ 64 - 1 = eqb-true (side_at t n).top (2 ^ 64 - 1) yes in omega (arith, same, low))) (λ no.
+    cond_both (is_under_way b t.history) _ _ HasEpoch (λ yes wrong. cc) (λ no.
     cond_both (fails_at (host_of t n) 9) _ _ HasEpoch (λ yes wrong. cc) (λ no wrong. cc))))
 
 pub epochs_last : (b : Snapshot) (piece : ℕ) (t : Transcript) → InTurn b piece t → length t < 2 ^ 64 - 1 → offer_reply b (hosts_after b piece t) (running_host (hosts_after b piece t)) ≢ reply.EpochEnd

@@ -22,11 +22,13 @@ use Rattle.crb_history.specs.Device.{executed, buffer}
 use Rattle.vt_base.specs.declared.types.HostName.{HostName}
 use Rattle.move_codec.specs.declared.names.Part.TheVariants.{Record, Permanent, Volatile, Saved}
 use Rattle.move_codec.specs.declared.message.Message.{Message}
+use Rattle.move_core.specs.declared.stage.MoveStage.{MoveStage}
+use Rattle.move_core.specs.declared.stage.MoveStage.TheVariants as stage
 use Rattle.move_core.specs.Sides.{first_bad, is_bad}
 use Rattle.vt_script.specs.declared.event.Event.TheVariants.{Offer, Deliver, GiveUp, Again, Show}
 use Rattle.vt_script.specs.declared.reply.Reply.TheVariants as reply
 use Rattle.two_hosts.specs.Parts.{part_bytes, totals_of}
-use Rattle.two_hosts.specs.Hosts.{TwoHosts, hosts_after, host_where, running_host, is_offering, is_prepared, message_at, after_delivery, after_offer, after_give_up, after_again, guest_line_on_any, after_line, after_exchange, with_offer}
+use Rattle.two_hosts.specs.Hosts.{TwoHosts, hosts_after, stage_at, host_where, running_host, working_host, is_leaving, is_prepared, guest_line_on, worker_part, after_drained, after_work_at, after_work, message_at, after_delivery, after_offer, after_give_up, after_again, guest_line_on_any, after_line, after_exchange, with_offer}
 use Rattle.vt_transcript.specs.Replies.{Transcript}
 use Rattle.two_hosts.proofs.Refusals.{GoodTotals}
 
@@ -71,6 +73,7 @@ offered_good offered e v new old d = cond_both (d == e) v (offered d) (λ (w : S
 offer_good : (b : Snapshot) (t : TwoHosts) (found : Option HostName) (q : Reply) → IsValidSnapshot b → GoodTotals t.offered → GoodTotals (after_offer b t found q).offered
 offer_good b t None q fit old = old
 offer_good b t (Some n) (reply.Offered e m) fit old = offered_good t.offered _ (snapshot_after b t.history) (later_good b t.history fit) old
+offer_good b t (Some n) (reply.Draining k) fit old = old
 offer_good b t (Some n) _ fit old = old
 
 delivery_good : (piece : ℕ) (t : TwoHosts) (found : Option Message) (q : Reply) → GoodTotals t.offered → GoodTotals (after_delivery piece t found q).offered
@@ -89,15 +92,31 @@ any_good : (b : Snapshot) (t : TwoHosts) (found : Option HostName) (e : Event) (
 any_good b t None e g old = old
 any_good b t (Some n) e g old = old
 
+drained_good : (b : Snapshot) (t : TwoHosts) (n : HostName) (q : Reply) → IsValidSnapshot b → GoodTotals t.offered → GoodTotals (after_drained b t n q).offered
+drained_good b t n (reply.DoneOffered k e m) fit old = offered_good t.offered _ (snapshot_after b t.history) (later_good b t.history fit) old
+drained_good b t n (reply.CancelledOffered k e m) fit old = offered_good t.offered _ (snapshot_after b t.history) (later_good b t.history fit) old
+drained_good b t n (reply.DoneLink k) fit old = old
+drained_good b t n (reply.CancelledLink k) fit old = old
+drained_good b t n (reply.Lost k) fit old = old
+drained_good b t n _ fit old = old
+
+work_good_at : (b : Snapshot) (t : TwoHosts) (n : HostName) (g : MoveStage) (q : Reply) → IsValidSnapshot b → GoodTotals t.offered → GoodTotals (after_work_at b t n g q).offered
+work_good_at b t n stage.Draining q fit old = drained_good b (guest_line_on b t n line.Work (worker_part q)) n q fit old
+work_good_at b t n _ q fit old = old
+
+work_good : (b : Snapshot) (t : TwoHosts) (found : Option HostName) (q : Reply) → IsValidSnapshot b → GoodTotals t.offered → GoodTotals (after_work b t found q).offered
+work_good b t None q fit old = old
+work_good b t (Some n) q fit old = work_good_at b t n (stage_at t n) q fit old
+
 pub line_good : (b : Snapshot) (piece : ℕ) (t : TwoHosts) (l : Event) (q : Reply) → IsValidSnapshot b → GoodTotals t.offered → GoodTotals (after_line b piece t l q).offered
 line_good b piece t (line.Access a) q fit old = any_good b t (running_host t) (line.Access a) q old
-line_good b piece t line.Work q fit old = any_good b t (running_host t) line.Work q old
+line_good b piece t line.Work q fit old = work_good b t (working_host t) q fit old
 line_good b piece t line.Ask q fit old = any_good b t (running_host t) line.Ask q old
 line_good b piece t line.Reset q fit old = any_good b t (running_host t) line.Reset q old
 line_good b piece t (line.Fail host call) q fit old = old
 line_good b piece t Offer q fit old = offer_good b t (running_host t) q fit old
 line_good b piece t (Deliver k) q fit old = delivery_good piece t (message_at t.sent k) q old
-line_good b piece t GiveUp q fit old = give_up_good t (host_where is_offering t) old
+line_good b piece t GiveUp q fit old = give_up_good t (host_where is_leaving t) old
 line_good b piece t Again q fit old = again_good t (host_where is_prepared t) old
 line_good b piece t (Show k) q fit old = old
 

@@ -43,8 +43,8 @@ pub offer_replied : (b : Snapshot) (w : TwoHosts) (n : HostName) → CanOffer b 
 offer_replied b w n can =
     ap (offer_reply b w) can.runs
     ∙ cond-false (is_lost (phase_of b w.history)) _ _ can.working
-    ∙ cond-false (is_under_way b w.history) _ _ can.unclaimed
     ∙ cond-false ((host_of w n).side.top == 2 ^ 64 - 1) _ _ (ne_eqb (host_of w n).side.top (2 ^ 64 - 1) can.epoch)
+    ∙ cond-false (is_under_way b w.history) _ _ can.unclaimed
     ∙ cond-false (fails_at (host_of w n) 9) _ _ (unreached (host_of w n).injected_fault ((host_of w n).calls + 9) can.works)
 
 -- a host that is found runs
@@ -63,6 +63,7 @@ passive_off (stage.Released d) is = refl
 passive_off (stage.Filling d totals part place) is = refl
 passive_off (stage.Prepared d) is = refl
 passive_off stage.Running is = absurd is
+passive_off stage.Draining is = absurd is
 passive_off (stage.Offering d totals) is = absurd is
 
 beside : (b : Snapshot) (w : TwoHosts) (n : HostName) → HostsInvariant b w → (side_at w n).stage ≡ stage.Running → Beside w n

@@ -1,6 +1,6 @@
 -- Scripts with their replies, computed from the definitions.
-use Rattle.std.proofs.Common.{◌≡◌, ℕ, Bool, true, false, ◌&&◌, ◌+◌, List, [], ◌∷◌, length, Option, Some, None, refl, lit≤}
-use Rattle.std.specs.Prelude.{replicate, ⊤}
+use Rattle.std.proofs.Common.{◌≡◌, ℕ, Bool, true, false, ◌&&◌, ◌+◌, List, [], ◌∷◌, length, Option, Some, None, refl, sym, subst, lit≤}
+use Rattle.std.specs.Prelude.{replicate, ⊤, if◌then◌else◌}
 use Rattle.vt_script.specs.declared.event.Event.{Event}
 use Rattle.vt_script.specs.declared.event.Event.TheVariants.{Access, Work, Ask as AskLine, Reset as ResetLine, Offer, Deliver, GiveUp, Again, Show, Fail}
 use Rattle.vt_script.specs.declared.reply.Reply.{Reply}
@@ -11,16 +11,18 @@ use Rattle.crb_machine.specs.Values.{fresh_device}
 use Rattle.tpm_core.specs.declared.algorithm.Banks.TheVariants.{Two}
 use Rattle.crb_history.specs.Snapshot.{Snapshot, fresh}
 use Rattle.crb_history.specs.Event.{History}
-use Rattle.vt_transcript.specs.Replies.{Exchange, Transcript}
+use Rattle.vt_transcript.specs.Replies.{Exchange, Transcript, worker_reply, has_rest, response_length}
 use Rattle.crb_history.specs.Legal.{Legal}
 use Rattle.crb_history.specs.Continued.{snapshot_after}
-use Rattle.crb_history.specs.Device.JobStage.{Waiting, HasSent}
+use Rattle.crb_history.specs.Device.JobStage.{Waiting, Claimed, HasSent}
 use Rattle.vt_base.specs.declared.types.HostName.{HostName}
 use Rattle.vt_base.specs.declared.types.HostName.TheVariants.{A, B}
 use Rattle.vt_base.specs.declared.types.Reason.TheVariants as reason
 use Rattle.move_codec.specs.declared.message.Message.{Message}
-use Rattle.two_hosts.specs.Hosts.{TwoHosts, first_hosts, hosts_after, running_host, offered_by, after_offer, after_exchange, next_number, message_at, bag_size}
-use Rattle.two_hosts.specs.Replies.{AnswersIn}
+use Rattle.move_core.specs.declared.stage.MoveStage.{MoveStage}
+use Rattle.move_core.specs.declared.stage.MoveStage.TheVariants.{Draining}
+use Rattle.two_hosts.specs.Hosts.{TwoHosts, fails_at, first_hosts, hosts_after, stage_at, running_host, working_host, guest_line_on, offered_by, after_offer, after_work, after_work_at, after_exchange, next_number, message_at, bag_size}
+use Rattle.two_hosts.specs.Replies.{AnswersIn, draining_reply}
 use Rattle.two_hosts.specs.WholeMove.{piece_count}
 
 never : (c : Bool) → (c && false) ≡ false
@@ -29,6 +31,9 @@ never false = refl
 
 sent_waits : HasSent ≡ Waiting → ⊥
 sent_waits is = cc
+
+claimed_waits : Claimed ≡ Waiting → ⊥
+claimed_waits is = cc
 
 -- a line and its reply
 abbrev said : Event → Reply → Exchange
@@ -41,8 +46,18 @@ abbrev offered_with : Snapshot → TwoHosts → Option HostName → TwoHosts
 offered_with values t None = t
 offered_with values t (Some n) = offered_by values t n
 
+abbrev worked_with_at : (History → Snapshot) → Snapshot → TwoHosts → HostName → MoveStage → Reply → TwoHosts
+worked_with_at save b t n Draining (reply.DoneOffered number epoch message) = let after = guest_line_on b t n Work (reply.Done number) in offered_by (save after.history) after n
+worked_with_at save b t n Draining (reply.CancelledOffered number epoch message) = let after = guest_line_on b t n Work (reply.Cancelled number) in offered_by (save after.history) after n
+worked_with_at save b t n stage r = after_work_at b t n stage r
+
+abbrev worked_with : (History → Snapshot) → Snapshot → TwoHosts → Option HostName → Reply → TwoHosts
+worked_with save b t None r = t
+worked_with save b t (Some n) r = worked_with_at save b t n (stage_at t n) r
+
 abbrev exchanged_with : (History → Snapshot) → Snapshot → ℕ → TwoHosts → Option Event → Reply → TwoHosts
 exchanged_with save b piece t (Some Offer) (reply.Offered epoch message) = offered_with (save t.history) t (running_host t)
+exchanged_with save b piece t (Some Work) r = worked_with save b t (working_host t) r
 exchanged_with save b piece t line r = after_exchange b piece t line r
 
 abbrev hosts_with : (History → Snapshot) → Snapshot → ℕ → Transcript → TwoHosts
@@ -63,6 +78,16 @@ same_exchange b piece t (Some Offer) (reply.Offered epoch message) = go (running
     go : (n : Option HostName) → offered_with (snapshot_after b t.history) t n ≡ after_offer b t n (reply.Offered epoch message)
     go None = refl
     go (Some n) = refl
+same_exchange b piece t (Some Work) r = go (working_host t)
+  where
+    at : (n : HostName) (stage : MoveStage) (r : Reply) → worked_with_at (snapshot_after b) b t n stage r ≡ after_work_at b t n stage r
+    at n Draining (reply.DoneOffered number epoch message) = refl
+    at n Draining (reply.CancelledOffered number epoch message) = refl
+    at n _ _ = refl
+
+    go : (n : Option HostName) → worked_with (snapshot_after b) b t n r ≡ after_work b t n r
+    go None = refl
+    go (Some n) = at n (stage_at t n) r
 same_exchange b piece t _ _ = refl
 
 same_hosts : (b : Snapshot) (piece : ℕ) (t : Transcript) → hosts_with (snapshot_after b) b piece t ≡ hosts_after b piece t
@@ -74,19 +99,53 @@ same_hosts b piece (y ∷ t) = rw (same_hosts b piece t) (same_exchange b piece 
 abbrev blank : Snapshot
 blank = record (fresh (replicate 32 0) Two) { device = record fresh_device { content = [] } }
 
--- An offer waits for a command that is claimed; then no line of the guest is answered.
---   w 8 4 1 > ok, w 40 4 1 > ok, w 80 4 180 > ok, w 84 4 c00 > ok, w 88 4 4401 > ok, w 4c 4 1 > ok, work > claim 1
---   offer > not yet, reset > not yet, work > sent 1, work > exec 1, work > done 1, offer > offered 1 sent 1
---   r 0 4 > stopped, work > stopped
-offers_wait_for_commands : IsRunBy (λ history. blank) blank 4096 (
-    said Work reply.Stopped ∷
-    said (Access (record { offset = 0; size = 4; write = None })) reply.Stopped ∷
-    said Offer (reply.Offered 1 1) ∷
-    said Work (reply.Done 1) ∷
+-- the lines before the last step of the worker
+abbrev draining_now : Transcript
+draining_now =
     said Work (reply.Exec 1) ∷
     said Work (reply.Sent 1) ∷
+    said ResetLine reply.Stopped ∷
+    said (Access (record { offset = 0; size = 4; write = None })) reply.Stopped ∷
+    said Offer (reply.Draining 1) ∷
     said ResetLine reply.NotYet ∷
-    said Offer reply.NotYet ∷
+    said Work (reply.Claim 1) ∷
+    said (Access (record { offset = 76; size = 4; write = Some 1 })) reply.Accepted ∷
+    said (Access (record { offset = 136; size = 4; write = Some 17409 })) reply.Accepted ∷
+    said (Access (record { offset = 132; size = 4; write = Some 3072 })) reply.Accepted ∷
+    said (Access (record { offset = 128; size = 4; write = Some 384 })) reply.Accepted ∷
+    said (Access (record { offset = 64; size = 4; write = Some 1 })) reply.Accepted ∷
+    said (Access (record { offset = 8; size = 4; write = Some 1 })) reply.Accepted ∷
+    []
+
+abbrev hosts_now : TwoHosts
+hosts_now = hosts_with (λ history. blank) blank 4096 draining_now
+
+-- whatever the length of the response is, no call fails
+done_now : worker_reply blank hosts_now.history (fails_at hosts_now.a) ≡ reply.Done 1
+unfolding encode_record encode_blob bag_size
+done_now = ends (has_rest (response_length blank hosts_now.history))
+  where
+    ends : (c : Bool) → (if c && false then reply.Lost 1 else reply.Done 1) ≡ reply.Done 1
+    ends true = refl
+    ends false = refl
+
+drained_now : reply.DoneOffered 1 1 1 ≡ draining_reply blank hosts_now A (worker_reply blank hosts_now.history (fails_at hosts_now.a))
+unfolding encode_record encode_blob bag_size
+drained_now = subst (λ (q : Reply). reply.DoneOffered 1 1 1 ≡ draining_reply blank hosts_now A q) (sym done_now) refl
+
+-- While a command is claimed the host that offers drains: no line of the guest is answered, and the offer comes with the end of the command.
+--   w 8 4 1 > ok, w 40 4 1 > ok, w 80 4 180 > ok, w 84 4 c00 > ok, w 88 4 4401 > ok, w 4c 4 1 > ok, work > claim 1
+--   reset > not yet, offer > draining 1, r 0 4 > stopped, reset > stopped, work > sent 1, work > exec 1
+--   work > done 1 offered 1 sent 1, work > stopped
+offers_wait_for_commands : IsRunBy (λ history. blank) blank 4096 (
+    said Work reply.Stopped ∷
+    said Work (reply.DoneOffered 1 1 1) ∷
+    said Work (reply.Exec 1) ∷
+    said Work (reply.Sent 1) ∷
+    said ResetLine reply.Stopped ∷
+    said (Access (record { offset = 0; size = 4; write = None })) reply.Stopped ∷
+    said Offer (reply.Draining 1) ∷
+    said ResetLine reply.NotYet ∷
     said Work (reply.Claim 1) ∷
     said (Access (record { offset = 76; size = 4; write = Some 1 })) reply.Accepted ∷
     said (Access (record { offset = 136; size = 4; write = Some 17409 })) reply.Accepted ∷
@@ -96,7 +155,92 @@ offers_wait_for_commands : IsRunBy (λ history. blank) blank 4096 (
     said (Access (record { offset = 8; size = 4; write = Some 1 })) reply.Accepted ∷
     [])
 unfolding encode_record encode_blob bag_size
-offers_wait_for_commands = record { legal = ((((((((((tt, tt), tt), tt), tt), tt), tt), record { executing = refl; reached = refl }), record { executing = refl; reached = refl }), record { executing = refl; reached = refl }), record { executing = refl; reached = refl }); in_turn = (((((((((((((((tt, refl), refl), refl), refl), refl), refl), refl), refl), refl), refl), refl), rw never refl), refl), refl), refl) }
+offers_wait_for_commands = record { legal = ((((((((((tt, tt), tt), tt), tt), tt), tt), record { executing = refl; reached = refl }), record { executing = refl; reached = refl }), record { executing = refl; reached = refl }), record { executing = refl; reached = refl }); in_turn = (((((((((((((((tt, refl), refl), refl), refl), refl), refl), refl), refl), refl), refl), refl), refl), refl), drained_now), refl) }
+
+-- A host that drains gives up: its guest runs on, and nothing was sent.
+--   w 8 4 1 > ok, w 40 4 1 > ok, w 80 4 180 > ok, w 84 4 c00 > ok, w 88 4 4401 > ok, w 4c 4 1 > ok, work > claim 1
+--   offer > draining 1, giveup > resumed, r 4c 4 > 00000001, work > sent 1, work > exec 1, work > done 1, giveup > not offering
+drained_and_given_up : IsRunBy (λ history. blank) blank 4096 (
+    said GiveUp reply.NotOffering ∷
+    said Work (reply.Done 1) ∷
+    said Work (reply.Exec 1) ∷
+    said Work (reply.Sent 1) ∷
+    said (Access (record { offset = 76; size = 4; write = None })) (reply.Value 1 4) ∷
+    said GiveUp reply.Resumed ∷
+    said Offer (reply.Draining 1) ∷
+    said Work (reply.Claim 1) ∷
+    said (Access (record { offset = 76; size = 4; write = Some 1 })) reply.Accepted ∷
+    said (Access (record { offset = 136; size = 4; write = Some 17409 })) reply.Accepted ∷
+    said (Access (record { offset = 132; size = 4; write = Some 3072 })) reply.Accepted ∷
+    said (Access (record { offset = 128; size = 4; write = Some 384 })) reply.Accepted ∷
+    said (Access (record { offset = 64; size = 4; write = Some 1 })) reply.Accepted ∷
+    said (Access (record { offset = 8; size = 4; write = Some 1 })) reply.Accepted ∷
+    [])
+unfolding encode_record encode_blob bag_size
+drained_and_given_up = record { legal = (((((((((((tt, tt), tt), tt), tt), tt), tt), record { executing = refl; reached = refl }), (lit≤ tt, refl)), record { executing = refl; reached = refl }), record { executing = refl; reached = refl }), record { executing = refl; reached = refl }); in_turn = ((((((((((((((tt, refl), refl), refl), refl), refl), refl), refl), refl), refl), (refl, refl)), refl), refl), rw never refl), refl) }
+
+-- The command of a host that drains is lost: the host offers nothing.
+--   fail a 2 > ok, w 8 4 1 > ok, w 40 4 1 > ok, w 80 4 180 > ok, w 84 4 c00 > ok, w 88 4 4401 > ok, w 4c 4 1 > ok
+--   work > claim 1, offer > draining 1, work > sent 1, work > lost 1, r 44 4 > 00000001, offer > failed device
+drained_and_lost : IsRunBy (λ history. blank) blank 4096 (
+    said Offer reply.FailedDevice ∷
+    said (Access (record { offset = 68; size = 4; write = None })) (reply.Value 1 4) ∷
+    said Work (reply.Lost 1) ∷
+    said Work (reply.Sent 1) ∷
+    said Offer (reply.Draining 1) ∷
+    said Work (reply.Claim 1) ∷
+    said (Access (record { offset = 76; size = 4; write = Some 1 })) reply.Accepted ∷
+    said (Access (record { offset = 136; size = 4; write = Some 17409 })) reply.Accepted ∷
+    said (Access (record { offset = 132; size = 4; write = Some 3072 })) reply.Accepted ∷
+    said (Access (record { offset = 128; size = 4; write = Some 384 })) reply.Accepted ∷
+    said (Access (record { offset = 64; size = 4; write = Some 1 })) reply.Accepted ∷
+    said (Access (record { offset = 8; size = 4; write = Some 1 })) reply.Accepted ∷
+    said (Fail A 2) reply.Accepted ∷
+    [])
+unfolding encode_record encode_blob bag_size
+drained_and_lost = record { legal = ((((((((((tt, tt), tt), tt), tt), tt), tt), record { executing = refl; reached = refl }), record { executing = refl; reached = refl }), record { executing = refl; claimed = λ is. sent_waits is }), (lit≤ tt, refl)); in_turn = (((((((((((((tt, refl), refl), refl), refl), refl), refl), refl), refl), refl), refl), refl), (refl, refl)), refl) }
+
+-- The command of a host that drains was cancelled before its claim. The ninth call of the offer behind it fails, so that the guest runs
+-- again; the next offer is made at once.
+--   fail a 9 > ok, w 8 4 1 > ok, w 40 4 1 > ok, w 80 4 180 > ok, w 84 4 c00 > ok, w 88 4 4401 > ok, w 4c 4 1 > ok
+--   w 48 4 1 > ok, work > claim 1, offer > draining 1, work > cancelled 1 link, offer > offered 1 sent 1, r 0 4 > stopped
+drained_and_cancelled : IsRunBy (λ history. blank) blank 4096 (
+    said (Access (record { offset = 0; size = 4; write = None })) reply.Stopped ∷
+    said Offer (reply.Offered 1 1) ∷
+    said Work (reply.CancelledLink 1) ∷
+    said Offer (reply.Draining 1) ∷
+    said Work (reply.Claim 1) ∷
+    said (Access (record { offset = 72; size = 4; write = Some 1 })) reply.Accepted ∷
+    said (Access (record { offset = 76; size = 4; write = Some 1 })) reply.Accepted ∷
+    said (Access (record { offset = 136; size = 4; write = Some 17409 })) reply.Accepted ∷
+    said (Access (record { offset = 132; size = 4; write = Some 3072 })) reply.Accepted ∷
+    said (Access (record { offset = 128; size = 4; write = Some 384 })) reply.Accepted ∷
+    said (Access (record { offset = 64; size = 4; write = Some 1 })) reply.Accepted ∷
+    said (Access (record { offset = 8; size = 4; write = Some 1 })) reply.Accepted ∷
+    said (Fail A 9) reply.Accepted ∷
+    [])
+unfolding encode_record encode_blob bag_size
+drained_and_cancelled = record { legal = (((((((((tt, tt), tt), tt), tt), tt), tt), tt), record { executing = refl; reached = refl }), (record { executing = refl; claimed = λ is. claimed_waits is }, refl)); in_turn = (((((((((((((tt, refl), refl), refl), refl), refl), refl), refl), refl), refl), refl), refl), refl), refl) }
+
+-- The tenth call isn't one of the offer.
+--   fail a 10 > ok, w 8 4 1 > ok, w 40 4 1 > ok, w 80 4 180 > ok, w 84 4 c00 > ok, w 88 4 4401 > ok, w 4c 4 1 > ok
+--   w 48 4 1 > ok, work > claim 1, offer > draining 1, work > cancelled 1 offered 1 sent 1, r 0 4 > stopped
+cancelled_and_offered : IsRunBy (λ history. blank) blank 4096 (
+    said (Access (record { offset = 0; size = 4; write = None })) reply.Stopped ∷
+    said Work (reply.CancelledOffered 1 1 1) ∷
+    said Offer (reply.Draining 1) ∷
+    said Work (reply.Claim 1) ∷
+    said (Access (record { offset = 72; size = 4; write = Some 1 })) reply.Accepted ∷
+    said (Access (record { offset = 76; size = 4; write = Some 1 })) reply.Accepted ∷
+    said (Access (record { offset = 136; size = 4; write = Some 17409 })) reply.Accepted ∷
+    said (Access (record { offset = 132; size = 4; write = Some 3072 })) reply.Accepted ∷
+    said (Access (record { offset = 128; size = 4; write = Some 384 })) reply.Accepted ∷
+    said (Access (record { offset = 64; size = 4; write = Some 1 })) reply.Accepted ∷
+    said (Access (record { offset = 8; size = 4; write = Some 1 })) reply.Accepted ∷
+    said (Fail A 10) reply.Accepted ∷
+    [])
+unfolding encode_record encode_blob bag_size
+cancelled_and_offered = record { legal = (((((((((tt, tt), tt), tt), tt), tt), tt), tt), record { executing = refl; reached = refl }), (record { executing = refl; claimed = λ is. claimed_waits is }, refl)); in_turn = ((((((((((((tt, refl), refl), refl), refl), refl), refl), refl), refl), refl), refl), refl), refl) }
 
 -- A whole move: message 10 is Prepared, message 11 is Commit.
 --   offer > offered 1 sent 1, deliver 1 > sent 2, deliver 2 > sent 3, deliver 3 > sent 4, deliver 4 > sent 5

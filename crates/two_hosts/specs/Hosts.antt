@@ -1,6 +1,6 @@
 -- Two hosts after lines and their replies: the history of one device over one TPM, the side of each host with its injected
 -- fault, and the messages that were sent. (Own definitions.)
-use Rattle.std.specs.Prelude.{ℕ, zero, suc, ◌+◌, ◌==◌, Bool, true, false, nat_lt, if◌then◌else◌, List, [], ◌∷◌, ◌++◌, length, slice_get, Option, Some, None}
+use Rattle.std.specs.Prelude.{ℕ, zero, suc, ◌+◌, ◌==◌, Bool, true, false, not, nat_lt, if◌then◌else◌, List, [], ◌∷◌, ◌++◌, length, slice_get, Option, Some, None}
 use Rattle.vt_script.specs.declared.event.Event.{Event}
 use Rattle.vt_script.specs.declared.event.Event.TheVariants.{Access, Work, Ask, Reset, Offer, Deliver, GiveUp, Again, Show, Fail}
 use Rattle.vt_script.specs.declared.reply.Reply.{Reply}
@@ -13,10 +13,10 @@ use Rattle.vt_base.specs.declared.types.HostName.TheVariants.{A, B}
 use Rattle.move_codec.specs.declared.message.Message.{Message}
 use Rattle.move_codec.specs.declared.message.Body.TheVariants as body
 use Rattle.move_core.specs.declared.stage.MoveStage.{MoveStage}
-use Rattle.move_core.specs.declared.stage.MoveStage.TheVariants.{Empty, Running, Offering, Released, Filling, Prepared}
+use Rattle.move_core.specs.declared.stage.MoveStage.TheVariants.{Empty, Running, Draining, Offering, Released, Filling, Prepared}
 use Rattle.move_core.specs.declared.answers.Delivered.{Delivered}
 use Rattle.move_core.specs.declared.answers.Delivered.TheVariants as delivers
-use Rattle.move_core.specs.Sides.{is_running}
+use Rattle.move_core.specs.Sides.{is_running, holds_device}
 use Rattle.move_core.specs.Messages.{message_from}
 use Rattle.vt_script.specs.declared.reply.Reply.TheVariants as reply
 use Rattle.two_hosts.specs.Parts.{totals_of}
@@ -55,6 +55,16 @@ abbrev pub is_offering : MoveStage → Bool
 is_offering (Offering e totals) = true
 is_offering _ = false
 
+-- whether the host has stopped its guest and may take that back
+abbrev pub is_leaving : MoveStage → Bool
+is_leaving Draining = true
+is_leaving (Offering e totals) = true
+is_leaving _ = false
+
+-- whether the worker may take a step
+abbrev pub is_working : MoveStage → Bool
+is_working s = not (holds_device s)
+
 abbrev pub is_prepared : MoveStage → Bool
 is_prepared (Prepared e) = true
 is_prepared _ = false
@@ -66,6 +76,16 @@ host_where test t = if test t.a.side.stage then Some A else (if test t.b.side.st
 -- the host whose guest runs
 abbrev pub running_host : TwoHosts → Option HostName
 running_host t = host_where is_running t
+
+-- the host whose worker goes on: its guest runs, or it drains
+abbrev pub working_host : TwoHosts → Option HostName
+working_host t = host_where is_working t
+
+abbrev pub host_at : MoveStage → HostState → HostState
+host_at stage h = record h { side = record h.side { stage = stage } }
+
+abbrev pub running_again : HostState → HostState
+running_again h = host_at Running h
 
 -- ---- the bag
 
@@ -126,11 +146,40 @@ offered_by values t n =
       offered = with_offer t.offered ((host_of t n).side.top + 1) values;
     }
 
--- the host that runs offers the values at the end of the history, or its offer is refused
+-- The host that runs offers the values at the end of the history, or its offer is refused. While a command is claimed it drains.
 abbrev pub after_offer : Snapshot → TwoHosts → Option HostName → Reply → TwoHosts
 after_offer b t None r = t
 after_offer b t (Some n) (reply.Offered epoch message) = offered_by (snapshot_after b t.history) t n
+after_offer b t (Some n) (reply.Draining number) = with_host t n (host_at Draining (host_of t n))
 after_offer b t (Some n) r = with_host t n (counted r 0 (host_of t n))
+
+-- ---- work
+
+-- what a reply says of the worker's own step
+abbrev pub worker_part : Reply → Reply
+worker_part (reply.DoneOffered number epoch message) = reply.Done number
+worker_part (reply.DoneLink number) = reply.Done number
+worker_part (reply.CancelledOffered number epoch message) = reply.Cancelled number
+worker_part (reply.CancelledLink number) = reply.Cancelled number
+worker_part r = r
+
+-- What follows that step on a host that drains: once the response is there it offers. Where the response is lost, or a call for
+-- the offer failed, its guest runs again.
+abbrev pub after_drained : Snapshot → TwoHosts → HostName → Reply → TwoHosts
+after_drained b t n (reply.DoneOffered number epoch message) = offered_by (snapshot_after b t.history) t n
+after_drained b t n (reply.CancelledOffered number epoch message) = offered_by (snapshot_after b t.history) t n
+after_drained b t n (reply.DoneLink number) = with_host t n (running_again (counted reply.Link 0 (host_of t n)))
+after_drained b t n (reply.CancelledLink number) = with_host t n (running_again (counted reply.Link 0 (host_of t n)))
+after_drained b t n (reply.Lost number) = with_host t n (running_again (host_of t n))
+after_drained b t n r = t
+
+abbrev pub after_work_at : Snapshot → TwoHosts → HostName → MoveStage → Reply → TwoHosts
+after_work_at b t n Draining r = after_drained b (guest_line_on b t n Work (worker_part r)) n r
+after_work_at b t n stage r = guest_line_on b t n Work r
+
+abbrev pub after_work : Snapshot → TwoHosts → Option HostName → Reply → TwoHosts
+after_work b t None r = t
+after_work b t (Some n) r = after_work_at b t n (stage_at t n) r
 
 -- ---- deliver
 
@@ -170,14 +219,16 @@ epoch_of (Filling e totals part place) = e
 epoch_of (Prepared e) = e
 epoch_of Empty = 0
 epoch_of Running = 0
+epoch_of Draining = 0
 
-abbrev pub running_again : HostState → HostState
-running_again h = record h { side = record h.side { stage = Running } }
+-- a host that offered says so by an Abort
+abbrev pub aborts_in : HostName → MoveStage → List Message
+aborts_in n (Offering e totals) = message_from n e body.Abort ∷ []
+aborts_in n _ = []
 
 abbrev pub after_give_up : TwoHosts → Option HostName → TwoHosts
 after_give_up t None = t
-after_give_up t (Some n) =
-    record (with_host t n (running_again (host_of t n))) { sent = t.sent ++ message_from n (epoch_of (stage_at t n)) body.Abort ∷ [] }
+after_give_up t (Some n) = record (with_host t n (running_again (host_of t n))) { sent = t.sent ++ aborts_in n (stage_at t n) }
 
 abbrev pub after_again : TwoHosts → Option HostName → TwoHosts
 after_again t None = t
@@ -185,16 +236,17 @@ after_again t (Some n) = record t { sent = t.sent ++ message_from n (epoch_of (s
 
 -- ---- line by line
 
--- A fault is injected into the wires of the host that its line names. The other lines of the guest act on the host that runs.
+-- A fault is injected into the wires of the host that its line names. The other lines of the guest act on the host that runs, and
+-- `work` also on one that drains.
 abbrev pub after_line : Snapshot → ℕ → TwoHosts → Event → Reply → TwoHosts
 after_line b piece t (Access access) r = guest_line_on_any b t (running_host t) (Access access) r
-after_line b piece t Work r = guest_line_on_any b t (running_host t) Work r
+after_line b piece t Work r = after_work b t (working_host t) r
 after_line b piece t Ask r = guest_line_on_any b t (running_host t) Ask r
 after_line b piece t Reset r = guest_line_on_any b t (running_host t) Reset r
 after_line b piece t (Fail host call) r = guest_line_on b t host (Fail host call) r
 after_line b piece t Offer r = after_offer b t (running_host t) r
 after_line b piece t (Deliver k) r = after_delivery piece t (message_at t.sent k) r
-after_line b piece t GiveUp r = after_give_up t (host_where is_offering t)
+after_line b piece t GiveUp r = after_give_up t (host_where is_leaving t)
 after_line b piece t Again r = after_again t (host_where is_prepared t)
 after_line b piece t (Show k) r = t
 

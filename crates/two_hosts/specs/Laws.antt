@@ -22,7 +22,7 @@ use Rattle.two_hosts.specs.Invariant.{IsSent, side_at, shown_side}
 abbrev pub Always : (TwoHosts → Type 0) → Type 0
 Always P = (b : Snapshot) (piece : ℕ) (t : Transcript) → InTurn b piece t → P (hosts_after b piece t)
 
--- at most one side is Running or Offering
+-- at most one side is Running, Draining or Offering
 abbrev pub NeverTwoActive : TwoHosts → Type 0
 NeverTwoActive t = (is_active t.a.side.stage && is_active t.b.side.stage) ≡ false
 

@@ -5,4 +5,5 @@ pub mod Replies
 pub mod RunningSet
 pub mod Invariant
 pub mod WholeMove
+pub mod Drains
 pub mod Laws

@@ -9,10 +9,11 @@ use Rattle.vt_script.specs.declared.reply.Reply.{Reply}
 use Rattle.vt_script.specs.declared.reply.Reply.TheVariants as reply
 use Rattle.vt_transcript.specs.Replies.{Transcript}
 
--- the hosts that run, and the source of the latest offer
+-- the hosts that run or drain, whether one drains, and the source of the latest offer
 pub record RunningSet : Type 0 where
   pub a : Bool
   pub b : Bool
+  pub drains : Bool
   pub source : HostName
 
 abbrev pub contains : RunningSet → HostName → Bool
@@ -28,13 +29,25 @@ insert B r = record r { b = true }
 
 -- the host that ran leaves the set, and is the source
 abbrev pub without_source : RunningSet → RunningSet
-without_source r = record { a = false; b = false; source = if r.a then A else B }
+without_source r = record { a = false; b = false; drains = false; source = if r.a then A else B }
 
--- An offer that was sent takes the source out. Where it is given up or refused the source is in again, and where it is
--- committed the other host is.
+abbrev pub drained : RunningSet → RunningSet
+drained r = record r { drains = false }
+
+-- a host that drained is still in the set
+abbrev pub resumed : RunningSet → RunningSet
+resumed r = if r.drains then drained r else insert r.source r
+
+-- An offer that was sent takes the source out, also where it comes behind the end of a command. Where it is given up or refused the
+-- source is in again, and where it is committed the other host is. A host drains until its command ends, or until it resumes.
 abbrev pub after_reply : Reply → RunningSet → RunningSet
 after_reply (reply.Offered epoch message) r = without_source r
-after_reply reply.Resumed r = insert r.source r
+after_reply (reply.DoneOffered number epoch message) r = without_source r
+after_reply (reply.CancelledOffered number epoch message) r = without_source r
+after_reply (reply.Draining number) r = record r { drains = true }
+after_reply (reply.DoneLink number) r = drained r
+after_reply (reply.CancelledLink number) r = drained r
+after_reply reply.Resumed r = resumed r
 after_reply (reply.ResumedSent message) r = insert r.source r
 after_reply reply.Running r = insert (other r.source) r
 after_reply (reply.Value value size) r = r
@@ -43,9 +56,9 @@ after_reply reply.Idle r = r
 after_reply (reply.Claim number) r = r
 after_reply (reply.Sent number) r = r
 after_reply (reply.Exec number) r = r
-after_reply (reply.Done number) r = r
-after_reply (reply.Cancelled number) r = r
-after_reply (reply.Lost number) r = r
+after_reply (reply.Done number) r = drained r
+after_reply (reply.Cancelled number) r = drained r
+after_reply (reply.Lost number) r = drained r
 after_reply reply.Link r = r
 after_reply reply.Asked r = r
 after_reply reply.FailedDevice r = r
@@ -64,7 +77,7 @@ after_reply (reply.Shown bytes) r = r
 
 -- the set after these replies; at first A runs
 abbrev pub running_set : Transcript → RunningSet
-running_set [] = record { a = true; b = false; source = A }
+running_set [] = record { a = true; b = false; drains = false; source = A }
 running_set (x ∷ t) = after_reply x.reply (running_set t)
 
 -- whether a line acts on the host that runs
@@ -79,6 +92,11 @@ needs_running (Deliver message) = false
 needs_running GiveUp = false
 needs_running Again = false
 needs_running (Show message) = false
+
+-- whether a line waits while a host drains: the worker alone goes on
+abbrev pub waits_for_drain : Event → Bool
+waits_for_drain Work = false
+waits_for_drain line = needs_running line
 
 abbrev pub is_stopped : Reply → Bool
 is_stopped reply.Stopped = true

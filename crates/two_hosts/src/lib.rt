@@ -9,7 +9,8 @@
 //! - `Replies`: the reply that is due to each line;
 //! - `RunningSet`: which hosts run, by the replies alone;
 //! - `Invariant` and `Laws`: what is true after every transcript in turn;
-//! - `WholeMove`: a move that nothing disturbs.
+//! - `WholeMove`: a move that nothing disturbs;
+//! - `Drains`: how the command of a host that drains ends.
 //!
 //! [`laws`] has what follows from them. There is no code here that runs: the hosts themselves are those of `move_core`.
 #![tactic(auto)]

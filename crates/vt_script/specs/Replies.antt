@@ -5,7 +5,7 @@ use lib.Chars.{codes}
 use Rattle.crb_regs.specs.Access.{IsAccessSize}
 use Rattle.vt_script.specs.Numbers.{line_feed}
 use Rattle.vt_script.specs.declared.reply.Reply.{Reply}
-use Rattle.vt_script.specs.declared.reply.Reply.TheVariants.{Stopped, Value, Accepted, Idle, Claim, Sent, Exec, Done, Cancelled, Lost, Link, Asked, FailedDevice, NotYet, Reset, EpochEnd, Offered, NoMessage, Ignored, Took, SentMessage, Running, Resumed, RefusedSent, NotOffering, ResumedSent, NotPrepared, Shown}
+use Rattle.vt_script.specs.declared.reply.Reply.TheVariants.{Stopped, Value, Accepted, Idle, Claim, Sent, Exec, Done, Cancelled, Lost, Link, Asked, FailedDevice, NotYet, Reset, EpochEnd, Offered, Draining, DoneOffered, DoneLink, CancelledOffered, CancelledLink, NoMessage, Ignored, Took, SentMessage, Running, Resumed, RefusedSent, NotOffering, ResumedSent, NotPrepared, Shown}
 use Rattle.hex.specs.Hex.{encode_lower}
 use Rattle.vt_base.specs.declared.types.Reason.{Reason}
 use Rattle.vt_base.specs.declared.types.Reason.TheVariants as reason
@@ -40,6 +40,14 @@ refusal_words reason.Reply = codes "refused reply sent "
 abbrev pub offered_text : ℕ → ℕ → List ℕ
 offered_text epoch message = numbered (codes "offered " ++ decimal epoch ++ codes " sent ") message
 
+-- the text of a command that ended, with the offer that follows, ended by LF
+abbrev pub ended_offered_text : List ℕ → ℕ → ℕ → ℕ → List ℕ
+ended_offered_text name number epoch message = (name ++ decimal number) ++ codes " " ++ offered_text epoch message
+
+-- the text of a command that ended, with the link that failed at the offer, ended by LF
+abbrev pub linked_text : List ℕ → ℕ → List ℕ
+linked_text name number = ended ((name ++ decimal number) ++ codes " link")
+
 -- bytes as two lower-case hexadecimal digits each, ended by LF
 unfoldable pub hex_line : List ℕ → List ℕ
 hex_line bytes = ended (encode_lower bytes)
@@ -63,6 +71,11 @@ reply_text NotYet = ended (codes "not yet")
 reply_text Reset = ended (codes "reset")
 reply_text EpochEnd = ended (codes "epoch end")
 reply_text (Offered epoch message) = offered_text epoch message
+reply_text (Draining number) = numbered (codes "draining ") number
+reply_text (DoneOffered number epoch message) = ended_offered_text (codes "done ") number epoch message
+reply_text (DoneLink number) = linked_text (codes "done ") number
+reply_text (CancelledOffered number epoch message) = ended_offered_text (codes "cancelled ") number epoch message
+reply_text (CancelledLink number) = linked_text (codes "cancelled ") number
 reply_text NoMessage = ended (codes "no message")
 reply_text Ignored = ended (codes "ignored")
 reply_text Took = ended (codes "took")
@@ -94,6 +107,11 @@ IsPrintable NotYet = Unit {0}
 IsPrintable Reset = Unit {0}
 IsPrintable EpochEnd = Unit {0}
 IsPrintable (Offered epoch message) = Unit {0}
+IsPrintable (Draining number) = Unit {0}
+IsPrintable (DoneOffered number epoch message) = Unit {0}
+IsPrintable (DoneLink number) = Unit {0}
+IsPrintable (CancelledOffered number epoch message) = Unit {0}
+IsPrintable (CancelledLink number) = Unit {0}
 IsPrintable NoMessage = Unit {0}
 IsPrintable Ignored = Unit {0}
 IsPrintable Took = Unit {0}

@@ -1,7 +1,7 @@
 //! The replies to the lines of a script.
 ghost use Rattle.std.specs.Prelude.{◌≡◌, ◌++◌, ◌≤◌, ◌<◌, ◌/◌, ◌%◌, ◌*◌, ◌^◌, OnOk, OnErr, length, take};
 ghost use Rattle.crb_regs.specs.Access.{IsAccessSize};
-ghost use Rattle.vt_script.specs.Replies.{hex_digit, hex_digits, ended, numbered, refusal_words, offered_text, reply_text, IsPrintable};
+ghost use Rattle.vt_script.specs.Replies.{hex_digit, hex_digits, ended, numbered, refusal_words, offered_text, ended_offered_text, linked_text, reply_text, IsPrintable};
 
 use crate::drive::print_response;
 use crate::parts::LINE_FEED;
@@ -15,7 +15,10 @@ pub enum Reply {
     /// No host runs.
     Stopped,
     /// What a read of `size` bytes gave.
-    Value { value: u64, size: u8 },
+    Value {
+        value: u64,
+        size: u8,
+    },
     /// A write was made.
     Accepted,
     /// No command waits for the worker.
@@ -45,7 +48,29 @@ pub enum Reply {
     /// No offer was made, since the host has seen the greatest epoch.
     EpochEnd,
     /// The host that ran offers its guest, by this message.
-    Offered { epoch: u64, message: u32 },
+    Offered {
+        epoch: u64,
+        message: u32,
+    },
+    /// The host stopped its guest, and offers it when the command of this number ends.
+    Draining(u64),
+    /// The response is with the device of a host that drained, and the host offers its guest by this message.
+    DoneOffered {
+        number: u64,
+        epoch: u64,
+        message: u32,
+    },
+    /// The response is with the device of a host that drained. The link failed at its offer, and the guest runs again.
+    DoneLink(u64),
+    /// The command of a host that drained was cancelled before it was executed, and the host offers its guest by this message.
+    CancelledOffered {
+        number: u64,
+        epoch: u64,
+        message: u32,
+    },
+    /// The command of a host that drained was cancelled before it was executed. The link failed at its offer, and the guest runs
+    /// again.
+    CancelledLink(u64),
     /// The bag has no message of this number.
     NoMessage,
     /// The delivery changed nothing.
@@ -59,7 +84,10 @@ pub enum Reply {
     /// The receiver's guest runs again.
     Resumed,
     /// The receiver refuses the move, by this message.
-    RefusedSent { reason: Reason, message: u32 },
+    RefusedSent {
+        reason: Reason,
+        message: u32,
+    },
     /// No host offers its guest.
     NotOffering,
     /// The guest that was offered runs again, and this message says so.
@@ -160,6 +188,31 @@ fn push_offered(
     into.extend_from_slice(text.as_bytes())
 }
 
+// Appends a name with a number in decimal, the text of an offer, and LF.
+fn push_ended_offered(
+    alloc: Global,
+    name: &str,
+    number: u64,
+    epoch: u64,
+    message: u32,
+    into: &mut Vec<u8>,
+) -> Result<(), AllocError>
+    ensures ok { OnOk result (into.new.items ≡ into.old.items ++ ended_offered_text name.now number epoch message) }
+    ensures err { OnErr result (into.new.items ≡ into.old.items) }
+{
+    let text = format!(in alloc; "{name}{number} offered {epoch} sent {message}\n")?;
+    into.extend_from_slice(text.as_bytes())
+}
+
+// Appends a name with a number in decimal, ` link`, and LF.
+fn push_linked(alloc: Global, name: &str, number: u64, into: &mut Vec<u8>) -> Result<(), AllocError>
+    ensures ok { OnOk result (into.new.items ≡ into.old.items ++ linked_text name.now number) }
+    ensures err { OnErr result (into.new.items ≡ into.old.items) }
+{
+    let text = format!(in alloc; "{name}{number} link\n")?;
+    into.extend_from_slice(text.as_bytes())
+}
+
 /// Appends the text of a reply and LF. An `Err` is lack of memory. The texts are our own; a value has two lower-case
 /// hexadecimal digits for each byte, as has a message that is shown; the other numbers are in decimal.
 #[tactic(auto, unfolding(crate::specs::Replies::reply_text))]
@@ -186,6 +239,19 @@ pub fn print_reply(alloc: Global, reply: &Reply, into: &mut Vec<u8>) -> Result<(
         Reply::Reset => into.extend_from_slice(b"reset\n"),
         Reply::EpochEnd => into.extend_from_slice(b"epoch end\n"),
         Reply::Offered { epoch, message } => push_offered(alloc, *epoch, *message, into),
+        Reply::Draining(number) => push_numbered(alloc, "draining ", *number, into),
+        Reply::DoneOffered {
+            number,
+            epoch,
+            message,
+        } => { push_ended_offered(alloc, "done ", *number, *epoch, *message, into) }
+        Reply::DoneLink(number) => push_linked(alloc, "done ", *number, into),
+        Reply::CancelledOffered {
+            number,
+            epoch,
+            message,
+        } => { push_ended_offered(alloc, "cancelled ", *number, *epoch, *message, into) }
+        Reply::CancelledLink(number) => push_linked(alloc, "cancelled ", *number, into),
         Reply::NoMessage => into.extend_from_slice(b"no message\n"),
         Reply::Ignored => into.extend_from_slice(b"ignored\n"),
         Reply::Took => into.extend_from_slice(b"took\n"),

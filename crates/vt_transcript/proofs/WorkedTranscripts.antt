@@ -116,9 +116,9 @@ cancelled_late t = record {
 
 -- An ask between the send and the execution cancels it.
 --   S, work > claim 1, work > sent 1, ask > asked, work > exec 1, work > cancelled 1, r 88 4 > 00000909
-asked_in_time : (t : TpmParts) → IsRun (reset_device t) (
+ask_before_execution : (t : TpmParts) → IsRun (reset_device t) (
     reads 0x88 0x0909 ∷ works (replied.Cancelled 1) ∷ works (replied.Exec 1) ∷ exchange AskLine replied.Asked ∷ works (replied.Sent 1) ∷ works (replied.Claim 1) ∷ is_started [])
-asked_in_time t = record {
+ask_before_execution t = record {
   legal = (
     (
       (
