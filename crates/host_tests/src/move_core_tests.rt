@@ -10,12 +10,14 @@ use std::alloc::{AllocError, Global};
 use std::test::*;
 use tpm_core::{Banks, SEED_SIZE};
 use vt_base::{Bytes, HostName, Reason};
+use vt_script::{Event, parse_line};
 use vt_seat::Seat;
 
 /// Each side, in epoch 1 where it has one. No host has seen a greater epoch.
-static SIDES: [Side; 6] = [
+static SIDES: [Side; 7] = [
     Side::Empty,
     Side::Running,
+    Side::Draining,
     Side::Offering(1),
     Side::Released(1),
     Side::Filling(1),
@@ -38,6 +40,16 @@ static PERMANENT: [u8; 49] = [
 static VOLATILE: [u8; 10] = [0x43, 0x52, 0x42, 0x56, 1, 0, 0, 0, 1, 0];
 
 static SAVED: [u8; 10] = [0x43, 0x52, 0x42, 0x5A, 1, 0, 0, 0, 1, 0];
+
+/// A guest takes access and makes the interface ready, writes TPM2_Startup(CLEAR) into the buffer and starts it.
+static START: [&[u8]; 6] = [
+    b"w 8 4 1",
+    b"w 40 4 1",
+    b"w 80 4 180",
+    b"w 84 4 c00",
+    b"w 88 4 4401",
+    b"w 4c 4 1",
+];
 
 /// What a host answers, and what it sends.
 #[derive(Clone, Copy, PartialEq, Eq)]
@@ -132,6 +144,34 @@ fn running(alloc: Global) -> Result<Seat<PlainPort>, AllocError> {
     Ok(seat)
 }
 
+// A write of a guest that runs.
+fn write(seat: &mut Seat<PlainPort>, event: &Event) {
+    if let Event::Access(access) = event {
+        if seat.is_running() {
+            drop(seat.access(access));
+        }
+    }
+}
+
+// The worker claims the job that waits.
+fn claim(seat: &mut Seat<PlainPort>) {
+    if seat.is_running() {
+        drop(seat.step(&Event::Work));
+    }
+}
+
+fn draining(alloc: Global) -> Result<Seat<PlainPort>, AllocError> {
+    let mut seat = running(alloc)?;
+    for line in &START {
+        if let Some(event) = parse_line(line) {
+            write(&mut seat, &event);
+        }
+    }
+    claim(&mut seat);
+    drop(seat.offer());
+    Ok(seat)
+}
+
 fn offering(alloc: Global) -> Result<Seat<PlainPort>, AllocError> {
     let mut seat = Seat::fresh(alloc, HostName::A, [0; SEED_SIZE], Banks::One, 4096)?;
     drop(seat.offer());
@@ -191,6 +231,7 @@ fn seat_at(alloc: Global, side: Side) -> Result<Seat<PlainPort>, AllocError> {
     match side {
         Side::Empty => empty(alloc),
         Side::Running => running(alloc),
+        Side::Draining => draining(alloc),
         Side::Offering(_) => offering(alloc),
         Side::Released(_) => released(alloc),
         Side::Filling(_) => filling(alloc),
@@ -277,6 +318,7 @@ fn is_offered(
     let busy = Answer::Refuse(Reason::Busy, 0);
     let rows = [
         follows(Side::Running, busy, Side::Running),
+        follows(Side::Draining, busy, Side::Draining),
         follows(offering, busy, offering),
         looks_at(Side::Empty, answer, then),
         looks_at(Side::Released(1), answer, then),

@@ -15,7 +15,8 @@ use Rattle.two_hosts.specs.WholeMove.{CanMove, MovesOver, deliveries, deliver_la
 use Rattle.two_hosts.proofs.WholeMoves.{moves_over}
 use Rattle.two_seats.specs.Both.{TwoSeats, RunsTo, running_of}
 use Rattle.two_seats.specs.Moves.{DeliversLast, OffersAndDelivers}
-use Rattle.two_seats.proofs.Seating.{other_still, running_host-is, running-same}
+use Rattle.two_seats.proofs.Seating.{other_still, held_still, running_host-is, running-same}
+use Rattle.two_hosts.proofs.InvariantKept.{running_free}
 
 -- the reply to such a delivery is the one that is due
 delivered_so : (b : Snapshot) (piece : ℕ) (t : Transcript) (line : Option Event) (r : Reply) → line ≡ Some (Deliver (length (hosts_after b piece t).sent)) → AnswersIn b piece (hosts_after b piece t) line r → record { line = line; reply = r } ≡ deliver_last b piece t
@@ -54,4 +55,4 @@ arrives b piece before t n w fit in_turn can o runs =
     let over : MovesOver b piece (offer_now b piece before ∷ before) n count = moves_over b piece before n fit in_turn can in
     let same : t ≡ deliveries b piece (2 * count + 3) (offer_now b piece before ∷ before) = one_way b piece (2 * count + 3) before t runs.run.in_turn o in
     let there : is_running (stage_at (hosts_after b piece t) (other n)) ≡ true = ap (λ (u : Transcript). is_running (stage_at (hosts_after b piece u) (other n))) same ∙ over.target in
-    running-same b piece (hosts_after b piece t) w runs.follows ∙ running_host-is (hosts_after b piece t) (other n) there (other_still b (hosts_after b piece t) (other n) runs.follows.invariant there)
+    running-same b piece (hosts_after b piece t) w runs.follows ∙ running_host-is (hosts_after b piece t) (other n) there (held_still (stage_at (hosts_after b piece t) (other (other n))) (other_still b (hosts_after b piece t) (other n) runs.follows.invariant (running_free (stage_at (hosts_after b piece t) (other n)) there)))

@@ -13,6 +13,7 @@ use Rattle.vt_base.specs.declared.types.HostName.TheVariants.{A, B}
 use Rattle.move_codec.specs.declared.message.Message.{Message}
 use Rattle.two_hosts.specs.Hosts.{first_hosts, host_of, bag_size}
 use Rattle.two_hosts.proofs.InvariantKept.{first_kept}
+use Rattle.two_hosts.proofs.DrainKept.{first_drains}
 use Rattle.vt_seat.specs.Wires.{WiresState}
 use Rattle.vt_seat.specs.Follows.{Refines}
 use Rattle.vt_seat.specs.Seats.{world_of, StartsAs, IsEmptySeat}
@@ -66,6 +67,7 @@ pub both_first : (b : Snapshot) (piece : ℕ) (w : TwoSeats) → IsValidSnapshot
 both_first b piece w fit follows starts empty bag_is = record {
   fit = follows.fit;
   invariant = first_kept b;
+  drains = first_drains b;
   fits = λ e. fit;
   seats = seated;
   some = λ m sent. absurd (nothing m sent.0 sent.1);

@@ -17,20 +17,23 @@ use Rattle.move_codec.specs.declared.message.Body.TheVariants as body
 use Rattle.move_core.specs.declared.answers.Delivered.{Delivered}
 use Rattle.move_core.specs.declared.answers.Delivered.TheVariants as delivers
 use Rattle.move_core.specs.declared.answers.OfferFault.{OfferFault}
+use Rattle.move_core.specs.declared.answers.Offered.{Offered}
+use Rattle.move_core.specs.declared.answers.Offered.TheVariants as offered
 use Rattle.move_core.specs.declared.answers.OfferFault.TheVariants as fault
 use Rattle.move_core.specs.Counts.{CountsIf, delivered_by_link, offered_by_link, is_link_refusal, is_link_reason}
-use Rattle.move_core.specs.Sides.{other}
+use Rattle.move_core.specs.Sides.{is_running, holds_device, other}
 use Rattle.vt_script.specs.declared.event.Event.{Event}
 use Rattle.vt_script.specs.declared.event.Event.TheVariants as event
 use Rattle.vt_script.specs.declared.event.Event.TheVariants.{Offer, Deliver}
 use Rattle.vt_script.specs.declared.reply.Reply.{Reply}
 use Rattle.vt_script.specs.declared.reply.Reply.TheVariants as reply
-use Rattle.two_hosts.specs.Hosts.{TwoHosts, running_host, message_at}
+use Rattle.two_hosts.specs.Hosts.{TwoHosts, stage_at, running_host, working_host, message_at}
+use Rattle.two_hosts.proofs.InvariantKept.{host_where_cases, running_free}
 use Rattle.two_hosts.specs.Replies.{reason_in}
 use Rattle.vt_seat.specs.Follows.{CountsFault, CountsBy}
 use Rattle.vt_seat.specs.State.{SeatState}
 use Rattle.two_seats.specs.Both.{TwoSeats, FollowsBoth, running_of, with_seat, seat_of, receiver_of, acts_on, CountsOn, CountsBoth, said_offer, said_delivery}
-use Rattle.two_seats.proofs.Seating.{running-same}
+use Rattle.two_seats.proofs.Seating.{running-same, other_still, working_host-is}
 
 -- the line acts on this host
 pub counts_at : (t : TwoHosts) (line : Event) (n : HostName) (r : Reply) (old new : TwoSeats) → acts_on t line ≡ Some n → CountsFault r (seat_of old n).faults (seat_of new n).faults
@@ -44,15 +47,15 @@ counts_none t line r old new acts fine a b = subst (λ (o : Option HostName). Co
 -- ---- offers
 
 -- the only fault of a client in an answer is one of the wires
-abbrev pub IsByLink : Result Message OfferFault → Type 0
+abbrev pub IsByLink : Result Offered OfferFault → Type 0
 IsByLink (Err (fault.Wires f)) = f ≡ LinkFault
 IsByLink _ = Unit {0}
 
-pub offer_counts : (answer : Result Message OfferFault) (number before now : ℕ) → IsByLink answer → CountsIf (offered_by_link answer) before now → CountsFault (said_offer answer number) before now
-offer_counts (Ok m) number before now by counts = counts
+pub offer_counts : (answer : Result Offered OfferFault) (number before now : ℕ) → IsByLink answer → CountsIf (offered_by_link answer) before now → CountsFault (said_offer answer number) before now
+offer_counts (Ok (offered.Sent m)) number before now by counts = counts
+offer_counts (Ok (offered.Draining k)) number before now by counts = counts
 offer_counts (Err fault.Stopped) number before now by counts = counts
 offer_counts (Err fault.Device) number before now by counts = counts
-offer_counts (Err (fault.NotYet k)) number before now by counts = counts
 offer_counts (Err fault.EpochEnd) number before now by counts = counts
 offer_counts (Err (fault.Wires f)) number before now by counts = subst (λ (g : ClientFault). CountsIf (offered_by_link (Err (fault.Wires g))) before now) by counts
 
@@ -96,23 +99,45 @@ delivery_counts (delivers.Wires f) number before now by counts = subst (λ (g : 
 
 -- ---- lines of the guest
 
-acts_plain : (t : TwoHosts) (line : Event) → is_plain line ≡ true → acts_on t line ≡ running_host t
-acts_plain t (event.Access a) is = refl
-acts_plain t event.Work is = refl
-acts_plain t event.Ask is = refl
-acts_plain t event.Reset is = refl
-acts_plain t event.Offer is = cc
-acts_plain t (event.Deliver k) is = cc
-acts_plain t event.GiveUp is = cc
-acts_plain t event.Again is = cc
-acts_plain t (event.Show k) is = cc
-acts_plain t (event.Fail host call) is = cc
+acts_on_running : (t : TwoHosts) (line : Event) (n : HostName) → is_plain line ≡ true → running_host t ≡ Some n → working_host t ≡ Some n → acts_on t line ≡ Some n
+acts_on_running t (event.Access a) n is runs works = runs
+acts_on_running t event.Work n is runs works = works
+acts_on_running t event.Ask n is runs works = runs
+acts_on_running t event.Reset n is runs works = runs
+acts_on_running t event.Offer n is runs works = cc
+acts_on_running t (event.Deliver k) n is runs works = cc
+acts_on_running t event.GiveUp n is runs works = cc
+acts_on_running t event.Again n is runs works = cc
+acts_on_running t (event.Show k) n is runs works = cc
+acts_on_running t (event.Fail host call) n is runs works = cc
+
+acts_on_none : (t : TwoHosts) (line : Event) → is_plain line ≡ true → running_host t ≡ None → (line ≡ event.Work → working_host t ≡ None) → acts_on t line ≡ None
+acts_on_none t (event.Access a) is runs works = runs
+acts_on_none t event.Work is runs works = works refl
+acts_on_none t event.Ask is runs works = runs
+acts_on_none t event.Reset is runs works = runs
+acts_on_none t event.Offer is runs works = cc
+acts_on_none t (event.Deliver k) is runs works = cc
+acts_on_none t event.GiveUp is runs works = cc
+acts_on_none t event.Again is runs works = cc
+acts_on_none t (event.Show k) is runs works = cc
+acts_on_none t (event.Fail host call) is runs works = cc
+
+-- a host that runs is one whose worker goes on
+running_works : (b : Snapshot) (piece : ℕ) (t : TwoHosts) (w : TwoSeats) (n : HostName) → FollowsBoth b piece t w → running_host t ≡ Some n → working_host t ≡ Some n
+running_works b piece t w n f found =
+    let at : holds_device (stage_at t n) ≡ false = running_free (stage_at t n) (runs_at found) in
+    working_host-is t n at (other_still b t n f.invariant at)
+  where
+    runs_at : running_host t ≡ Some n → is_running (stage_at t n) ≡ true
+    runs_at found = host_where_cases is_running t (λ o. o ≡ Some n → is_running (stage_at t n) ≡ true) (λ k runs same. let here : k ≡ n = cc in subst (λ j. is_running (stage_at t j) ≡ true) here runs) (λ wrong. absurd cc) found
 
 -- the host that runs acted, and counted its fault
 pub guest_counts : (b : Snapshot) (piece : ℕ) (t : TwoHosts) (w : TwoSeats) (n : HostName) (line : Event) (r : Reply) (new : SeatState PortState) → is_plain line ≡ true → FollowsBoth b piece t w → running_of w ≡ Some n
     → CountsFault r (seat_of w n).faults new.faults → CountsBoth t line r w (with_seat w n new)
 guest_counts b piece t w n line r new is f runs counts =
-    counts_at t line n r w (with_seat w n new) (acts_plain t line is ∙ sym (running-same b piece t w f) ∙ runs) (here n counts) (there n)
+    let found : running_host t ≡ Some n = sym (running-same b piece t w f) ∙ runs in
+    counts_at t line n r w (with_seat w n new) (acts_on_running t line n is found (running_works b piece t w n f found)) (here n counts) (there n)
   where
     here : (n : HostName) → CountsFault r (seat_of w n).faults new.faults → CountsFault r (seat_of w n).faults (seat_of (with_seat w n new) n).faults
     here A counts = counts
@@ -122,13 +147,13 @@ guest_counts b piece t w n line r new is f runs counts =
     there A = refl
     there B = refl
 
-pub stopped_counts : (b : Snapshot) (piece : ℕ) (t : TwoHosts) (w new : TwoSeats) (line : Event) → is_plain line ≡ true → FollowsBoth b piece t w → running_of w ≡ None → new.a.faults ≡ w.a.faults → new.b.faults ≡ w.b.faults → CountsBoth t line reply.Stopped w new
-stopped_counts b piece t w new line is f none a b' = counts_none t line reply.Stopped w new (acts_plain t line is ∙ sym (running-same b piece t w f) ∙ none) refl a b'
+pub stopped_counts : (b : Snapshot) (piece : ℕ) (t : TwoHosts) (w new : TwoSeats) (line : Event) → is_plain line ≡ true → FollowsBoth b piece t w → running_of w ≡ None → (line ≡ event.Work → working_host t ≡ None) → new.a.faults ≡ w.a.faults → new.b.faults ≡ w.b.faults → CountsBoth t line reply.Stopped w new
+stopped_counts b piece t w new line is f none idle a b' = counts_none t line reply.Stopped w new (acts_on_none t line is (sym (running-same b piece t w f) ∙ none) idle) refl a b'
 
 -- ---- lines about messages
 
 -- an offer of this host counted what its answer says
-pub offer_counted : (b : Snapshot) (piece : ℕ) (t : TwoHosts) (w new : TwoSeats) (n : HostName) (answer : Result Message OfferFault) (number : ℕ) (r : Reply) → FollowsBoth b piece t w → running_of w ≡ Some n → r ≡ said_offer answer number → IsByLink answer
+pub offer_counted : (b : Snapshot) (piece : ℕ) (t : TwoHosts) (w new : TwoSeats) (n : HostName) (answer : Result Offered OfferFault) (number : ℕ) (r : Reply) → FollowsBoth b piece t w → running_of w ≡ Some n → r ≡ said_offer answer number → IsByLink answer
     → CountsIf (offered_by_link answer) (seat_of w n).faults (seat_of new n).faults → (seat_of new (other n)).faults ≡ (seat_of w (other n)).faults → CountsBoth t Offer r w new
 offer_counted b piece t w new n answer number r f runs is by counts same =
     counts_at t Offer n r w new (sym (running-same b piece t w f) ∙ runs) (subst (λ (q : Reply). CountsFault q (seat_of w n).faults (seat_of new n).faults) (sym is) (offer_counts answer number (seat_of w n).faults (seat_of new n).faults by counts)) same

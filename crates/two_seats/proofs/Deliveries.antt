@@ -66,6 +66,7 @@ passive_off (stage.Released e) is = refl
 passive_off (stage.Filling e totals part place) is = refl
 passive_off (stage.Prepared e) is = refl
 passive_off stage.Running is = absurd is
+passive_off stage.Draining is = absurd is
 passive_off (stage.Offering e totals) is = absurd is
 
 same_name : (n : HostName) → is_same n n ≡ true
@@ -169,6 +170,7 @@ module _ (x : DeliveryContext) (s : SideState) (least : 1 ≤ x.piece) (most : x
       (λ unmet. record { some = tt })
   need_some stage.Empty e part offset seated total_is = record { some = tt }
   need_some stage.Running e part offset seated total_is = record { some = tt }
+  need_some stage.Draining e part offset seated total_is = record { some = tt }
   need_some (stage.Released m) e part offset seated total_is = record { some = tt }
   need_some (stage.Filling m totals next place) e part offset seated total_is = record { some = tt }
   need_some (stage.Prepared m) e part offset seated total_is = record { some = tt }
@@ -179,6 +181,7 @@ module _ (x : DeliveryContext) (s : SideState) (least : 1 ≤ x.piece) (most : x
       (λ unmet. record { some = tt })
   piece_some stage.Empty e part offset bytes = record { some = tt }
   piece_some stage.Running e part offset bytes = record { some = tt }
+  piece_some stage.Draining e part offset bytes = record { some = tt }
   piece_some (stage.Offering m totals) e part offset bytes = record { some = tt }
   piece_some (stage.Released m) e part offset bytes = record { some = tt }
   piece_some (stage.Prepared m) e part offset bytes = record { some = tt }
@@ -186,6 +189,7 @@ module _ (x : DeliveryContext) (s : SideState) (least : 1 ≤ x.piece) (most : x
   others_some : (st : MoveStage) (e : ℕ) → SaysSome (talk.on_prepared x s st e) × SaysSome (talk.on_commit s st e) × SaysSome (talk.on_abort s st e) × SaysSome (talk.on_refuse s st e)
   others_some stage.Empty e = (record { some = tt }, record { some = tt }, record { some = tt }, record { some = tt })
   others_some stage.Running e = (record { some = tt }, record { some = tt }, record { some = tt }, record { some = tt })
+  others_some stage.Draining e = (record { some = tt }, record { some = tt }, record { some = tt }, record { some = tt })
   others_some (stage.Offering m totals) e = (cond_both (m == e) _ _ SaysSome (λ met. record { some = tt }) (λ unmet. record { some = tt }), record { some = tt }, record { some = tt }, cond_both (m == e) _ _ SaysSome (λ met. record { some = tt }) (λ unmet. record { some = tt }))
   others_some (stage.Released m) e = (cond_both (m == e) _ _ SaysSome (λ met. record { some = tt }) (λ unmet. record { some = tt }), record { some = tt }, record { some = tt }, record { some = tt })
   others_some (stage.Filling m totals next place) e = (record { some = tt }, record { some = tt }, cond_both (m == e) _ _ SaysSome (λ met. record { some = tt }) (λ unmet. record { some = tt }), record { some = tt })

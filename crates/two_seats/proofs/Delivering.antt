@@ -23,7 +23,7 @@ use Rattle.move_core.specs.declared.answers.Delivered.TheVariants as delivers
 use Rattle.move_core.specs.declared.stage.MoveStage.{MoveStage}
 use Rattle.move_core.specs.declared.stage.MoveStage.TheVariants as stage
 use Rattle.move_core.specs.Model.{HostModel}
-use Rattle.move_core.specs.Sides.{is_running, other, side_of, total_of, is_active, first_bad}
+use Rattle.move_core.specs.Sides.{holds_device, is_running, other, side_of, total_of, is_active, first_bad}
 use Rattle.move_core.specs.Hosts.{IsConsistentHost}
 use Rattle.move_core.specs.Requests.{WiresView, wires_view}
 use Rattle.move_core.specs.Table as table
@@ -50,12 +50,11 @@ use Rattle.move_core.specs.declared.asking.Fetched.{Fetched}
 use Rattle.ctrl_model.specs.Emulator.{EmulatorState, PendingCommand, RequestOutcome, switched_off}
 use Rattle.ctrl_client.specs.Exchange.{result_of}
 use Rattle.ctrl_client.specs.Schedules.{fails_within, schedule_after}
-use Rattle.two_seats.proofs.Still.{still_is}
 use Rattle.two_seats.proofs.Exact.{Wired, Rested, Asked, asks_exact, Gives, Fetched3, fetches_exact}
 use Rattle.vt_seat.proofs.InjectedFaults.{due-same, due-passed, due-failed, fails-reaches}
 use Rattle.vt_seat.proofs.Steps.{the_same}
 use Rattle.vt_seat.specs.State.{SeatState}
-use Rattle.two_seats.specs.Seats.{IsIdle, HasValues, StandsBy, IsSeat}
+use Rattle.two_seats.specs.Seats.{IsIdle, HasValues, AtStage, IsSeat}
 use Rattle.two_seats.specs.Both.{TwoSeats, seat_of, FollowsBoth}
 use Rattle.two_seats.proofs.Seating.{goes_on_here, offers_present}
 
@@ -67,7 +66,7 @@ pub commit_present : (b : Snapshot) (t : TwoHosts) (n : HostName) (e : ℕ) (m :
 commit_present b t n e m kept sent to epoch says at = go kept.0 n kept.1 to at
   where
     holder_says : (k n : HostName) (x y : SideState) → PairInvariant n k x y t.offered (IsPresent b t.history) t.sent → x.stage ≡ stage.Prepared e → IsPresent b t.history (t.offered e)
-    holder_says k n x y kept at = subst (λ top. IsPresent b t.history (t.offered top)) (prepared_top t.offered x.stage x.top e (ap side_of at) kept.sides.holder) (kept.sides.same (ap is_running at))
+    holder_says k n x y kept at = subst (λ top. IsPresent b t.history (t.offered top)) (prepared_top t.offered x.stage x.top e (ap side_of at) kept.sides.holder) (kept.sides.same (ap holds_device at))
 
     never : (n k : HostName) (x y : SideState) → PairInvariant n k x y t.offered (IsPresent b t.history) t.sent → m.to ≡ k → y.stage ≡ stage.Prepared e → ⊥
     never n k x y kept to at =
@@ -122,7 +121,7 @@ module _ (b : Snapshot) (piece : ℕ) (t : TwoHosts) (w : TwoSeats) (n : HostNam
 
   -- the seat is the same but for these
   pub seat_with : (stage : MoveStage) (top : ℕ) (injected_fault : Option ℕ) (count : ℕ) (host : HostModel PortState) (link : Link) (calls_to_fault : Option ℕ) → host.name ≡ s.host.name → host.piece ≡ s.host.piece → link.emulator.piece ≡ s.link.emulator.piece → host.stage ≡ stage → host.top ≡ top
-      → IsInjected injected_fault count calls_to_fault → StandsBy b p t.offered stage (record s { host = host; link = link; calls_to_fault = calls_to_fault })
+      → IsInjected injected_fault count calls_to_fault → AtStage b p t.offered stage (record s { host = host; link = link; calls_to_fault = calls_to_fault })
       → IsSeat b piece p t.offered n (record { side = record { stage = stage; top = top }; injected_fault = injected_fault; calls = count }) (record s { host = host; link = link; calls_to_fault = calls_to_fault })
   seat_with stage top injected_fault count host link calls_to_fault name_is piece_is pieces stage_is top_is counts stands = record {
     name_is = name_is ∙ here.name_is;
@@ -137,7 +136,7 @@ module _ (b : Snapshot) (piece : ℕ) (t : TwoHosts) (w : TwoSeats) (n : HostNam
   -- a row that makes no calls
   pub quiet : (says : Body) (after : Outcome) (answer : Delivered) (host : HostModel PortState) (link : Link) (calls_to_fault : Option ℕ) (fa fb : ℕ) → seen_at link calls_to_fault fb ≡ seen_at s.link s.calls_to_fault fa
       → calls_at says after.side.stage after.answer ≡ 0 → is_fault (delivery_reply t.sent after.answer) ≡ false → answer ≡ after.answer
-      → host.name ≡ s.host.name → host.piece ≡ s.host.piece → host.stage ≡ after.side.stage → host.top ≡ after.side.top → StandsBy b p t.offered after.side.stage (record s { host = host })
+      → host.name ≡ s.host.name → host.piece ≡ s.host.piece → host.stage ≡ after.side.stage → host.top ≡ after.side.top → AtStage b p t.offered after.side.stage (record s { host = host })
       → Ends b piece t n s says (λ fails. after) answer host link calls_to_fault
   quiet says after answer host link calls_to_fault fa fb same calls fine is name_is piece_is stage_is top_is stands =
       let link_is : link ≡ s.link = the_same _ _ (ap (λ (v : WiresView (Option ℕ)). v.link) same) in
@@ -158,20 +157,20 @@ module _ (b : Snapshot) (piece : ℕ) (t : TwoHosts) (w : TwoSeats) (n : HostNam
   ignored says answer host link calls_to_fault fa fb (same, made) =
       let is : host ≡ s.host = made.host_is in
       quiet says (talk.ignored h.side) answer host link calls_to_fault fa fb same refl refl made.answer_is (ap (λ (k : HostModel PortState). k.name) is) (ap (λ (k : HostModel PortState). k.piece) is)
-      (ap (λ (k : HostModel PortState). k.stage) is ∙ here.stage_is) (ap (λ (k : HostModel PortState). k.top) is ∙ here.top_is) (subst (λ k. StandsBy b p t.offered h.side.stage (record s { host = k })) (sym is) here.stands)
+      (ap (λ (k : HostModel PortState). k.stage) is ∙ here.stage_is) (ap (λ (k : HostModel PortState). k.top) is ∙ here.top_is) (subst (λ k. AtStage b p t.offered h.side.stage (record s { host = k })) (sym is) here.stands)
 
-  pub stands_at : (stage : MoveStage) → h.side.stage ≡ stage → StandsBy b p t.offered stage s
-  stands_at stage at = subst (λ k. StandsBy b p t.offered k s) at here.stands
+  pub stands_at : (stage : MoveStage) → h.side.stage ≡ stage → AtStage b p t.offered stage s
+  stands_at stage at = subst (λ k. AtStage b p t.offered k s) at here.stands
 
   -- the host with another side, and nothing else that is decoded
   pub after_host : (says : Body) (stage : MoveStage) (reply : Delivered) (real : Delivered) (next : HostModel PortState) (answer : Delivered) (host : HostModel PortState) (link : Link) (calls_to_fault : Option ℕ) (fa fb : ℕ) → seen_at link calls_to_fault fb ≡ seen_at s.link s.calls_to_fault fa
       → calls_at says stage reply ≡ 0 → is_fault (delivery_reply t.sent reply) ≡ false → answer ≡ real → real ≡ reply → host ≡ next
-      → next.name ≡ s.host.name → next.piece ≡ s.host.piece → next.stage ≡ stage → next.top ≡ s.host.top → StandsBy b p t.offered stage (record s { host = next })
+      → next.name ≡ s.host.name → next.piece ≡ s.host.piece → next.stage ≡ stage → next.top ≡ s.host.top → AtStage b p t.offered stage (record s { host = next })
       → Ends b piece t n s says (λ fails. talk.answers (talk.at_stage h.side stage) reply) answer host link calls_to_fault
   after_host says stage reply real next answer host link calls_to_fault fa fb same calls fine is real_is host_is name_is piece_is stage_is top_is stands =
       quiet says (talk.answers (talk.at_stage h.side stage) reply) answer host link calls_to_fault fa fb same calls fine (is ∙ real_is)
       (ap (λ (k : HostModel PortState). k.name) host_is ∙ name_is) (ap (λ (k : HostModel PortState). k.piece) host_is ∙ piece_is) (ap (λ (k : HostModel PortState). k.stage) host_is ∙ stage_is)
-      (ap (λ (k : HostModel PortState). k.top) host_is ∙ top_is ∙ here.top_is) (subst (λ k. StandsBy b p t.offered stage (record s { host = k })) (sym host_is) stands)
+      (ap (λ (k : HostModel PortState). k.top) host_is ∙ top_is ∙ here.top_is) (subst (λ k. AtStage b p t.offered stage (record s { host = k })) (sym host_is) stands)
 
   pub named : (e : ℕ) (says : Body) → delivers.Sent (message_from s.host.name e says) ≡ delivers.Sent (message_from n e says)
   named e says = ap (λ k. delivers.Sent (message_from k e says)) here.name_is
@@ -186,10 +185,11 @@ module _ (b : Snapshot) (piece : ℕ) (t : TwoHosts) (w : TwoSeats) (n : HostNam
       (λ met answer host link calls_to_fault fa fb (same, made).
       quiet body.Prepared (talk.answers h.side (delivers.Sent (message_from n e body.Commit))) answer host link calls_to_fault fa fb same refl refl (made.answer_is ∙ named e body.Commit)
       (ap (λ (k : HostModel PortState). k.name) made.host_is) (ap (λ (k : HostModel PortState). k.piece) made.host_is) (ap (λ (k : HostModel PortState). k.stage) made.host_is ∙ here.stage_is) (ap (λ (k : HostModel PortState). k.top) made.host_is ∙ here.top_is)
-      (subst (λ k. StandsBy b p t.offered h.side.stage (record s { host = k })) (sym made.host_is) here.stands))
+      (subst (λ k. AtStage b p t.offered h.side.stage (record s { host = k })) (sym made.host_is) here.stands))
       (λ unmet. ignored body.Prepared)
   prepared_row stage.Empty e real at = ignored body.Prepared
   prepared_row stage.Running e real at = ignored body.Prepared
+  prepared_row stage.Draining e real at = ignored body.Prepared
   prepared_row (stage.Filling d totals part place) e real at = ignored body.Prepared
   prepared_row (stage.Prepared d) e real at = ignored body.Prepared
 
@@ -206,25 +206,27 @@ module _ (b : Snapshot) (piece : ℕ) (t : TwoHosts) (w : TwoSeats) (n : HostNam
       (λ unmet. ignored body.Abort)
   abort_row stage.Empty e real at = ignored body.Abort
   abort_row stage.Running e real at = ignored body.Abort
+  abort_row stage.Draining e real at = ignored body.Abort
   abort_row (stage.Offering d totals) e real at = ignored body.Abort
   abort_row (stage.Released d) e real at = ignored body.Abort
 
   -- the guest goes on here
   pub runs_here_now : (says : Body) (reply : Delivered) (d : ℕ) (answer : Delivered) (host : HostModel PortState) (link : Link) (calls_to_fault : Option ℕ) (fa fb : ℕ) → seen_at link calls_to_fault fb ≡ seen_at s.link s.calls_to_fault fa → calls_at says stage.Running reply ≡ 0 → is_fault (delivery_reply t.sent reply) ≡ false
-      → answer ≡ reply → is_running s.host.stage ≡ false → IsPresent b p (t.offered d) → HasValues (t.offered d) s.host.device s.link → IsIdle s.progress s.link → Resumes plain (record s.host { stage = stage.Running; record_bytes = [] }) host
+      → answer ≡ reply → holds_device s.host.stage ≡ true → IsPresent b p (t.offered d) → HasValues (t.offered d) s.host.device s.link → IsIdle s.progress s.link → Resumes plain (record s.host { stage = stage.Running; record_bytes = [] }) host
       → Ends b piece t n s says (λ fails. talk.answers (talk.at_stage h.side stage.Running) reply) answer host link calls_to_fault
   runs_here_now says reply d answer host link calls_to_fault fa fb same calls fine is off present values idle resumes =
-      let held : s.host.device.held ≡ true = consistent.matches_side.held ∙ still_is _ ∙ ap not off in
+      let held : s.host.device.held ≡ true = consistent.matches_side.held ∙ off in
       after_host says stage.Running reply reply (record s.host { stage = stage.Running; record_bytes = []; device = host.device }) answer host link calls_to_fault fa fb same calls fine is refl resumes.rest refl refl refl refl
       (goes_on_here b p (t.offered d) s.host.device host.device s.progress s.link present values idle held consistent.device resumes.device)
 
   pub commit_row : (st : MoveStage) (e : ℕ) → ((d : ℕ) → d ≡ e → h.side.stage ≡ stage.Prepared d → IsPresent b p (t.offered d)) → s.host.stage ≡ st → h.side.stage ≡ st → Good body.Commit (table.on_commit s.host st e) (λ fails. talk.on_commit h.side st e)
   commit_row (stage.Prepared d) e present real at = both_by body.Commit (d == e) _ _ (λ fails. talk.answers (talk.at_stage h.side stage.Running) delivers.Runs) (λ fails. talk.ignored h.side)
       (λ met answer host link calls_to_fault fa fb (same, made).
-      runs_here_now body.Commit delivers.Runs d answer host link calls_to_fault fa fb same refl refl made.answer_is (ap is_running real) (present d (eqb-true d e met) at) (stands_at (stage.Prepared d) at).1 (stands_at (stage.Prepared d) at).0 made.host_is)
+      runs_here_now body.Commit delivers.Runs d answer host link calls_to_fault fa fb same refl refl made.answer_is (ap holds_device real) (present d (eqb-true d e met) at) (stands_at (stage.Prepared d) at).1 (stands_at (stage.Prepared d) at).0 made.host_is)
       (λ unmet. ignored body.Commit)
   commit_row stage.Empty e present real at = ignored body.Commit
   commit_row stage.Running e present real at = ignored body.Commit
+  commit_row stage.Draining e present real at = ignored body.Commit
   commit_row (stage.Offering d totals) e present real at = ignored body.Commit
   commit_row (stage.Released d) e present real at = ignored body.Commit
   commit_row (stage.Filling d totals part place) e present real at = ignored body.Commit
@@ -232,10 +234,11 @@ module _ (b : Snapshot) (piece : ℕ) (t : TwoHosts) (w : TwoSeats) (n : HostNam
   pub refuse_row : (st : MoveStage) (e : ℕ) (why : Reason) (value : ℕ) → s.host.stage ≡ st → h.side.stage ≡ st → Good (body.Refuse why value) (table.on_refuse s.host st e) (λ fails. talk.on_refuse h.side st e)
   refuse_row (stage.Offering d totals) e why value real at = both_by (body.Refuse why value) (d == e) _ _ (λ fails. talk.answers (talk.at_stage h.side stage.Running) delivers.Resumed) (λ fails. talk.ignored h.side)
       (λ met answer host link calls_to_fault fa fb (same, made).
-      runs_here_now (body.Refuse why value) delivers.Resumed d answer host link calls_to_fault fa fb same refl refl made.answer_is (ap is_running real) (offers_present b t n d totals f.invariant at) (stands_at (stage.Offering d totals) at).1 (stands_at (stage.Offering d totals) at).0 made.host_is)
+      runs_here_now (body.Refuse why value) delivers.Resumed d answer host link calls_to_fault fa fb same refl refl made.answer_is (ap holds_device real) (offers_present b t n d totals f.invariant at) (stands_at (stage.Offering d totals) at).1 (stands_at (stage.Offering d totals) at).0 made.host_is)
       (λ unmet. ignored (body.Refuse why value))
   refuse_row stage.Empty e why value real at = ignored (body.Refuse why value)
   refuse_row stage.Running e why value real at = ignored (body.Refuse why value)
+  refuse_row stage.Draining e why value real at = ignored (body.Refuse why value)
   refuse_row (stage.Released d) e why value real at = ignored (body.Refuse why value)
   refuse_row (stage.Filling d totals part place) e why value real at = ignored (body.Refuse why value)
   refuse_row (stage.Prepared d) e why value real at = ignored (body.Refuse why value)
@@ -251,7 +254,7 @@ module _ (b : Snapshot) (piece : ℕ) (t : TwoHosts) (w : TwoSeats) (n : HostNam
     pub pieces : link.emulator.piece ≡ s.link.emulator.piece
     pub stage_is : host.stage ≡ (by met).side.stage
     pub top_is : host.top ≡ (by met).side.top
-    pub stands : StandsBy b p t.offered (by met).side.stage (record s { host = host; link = link; calls_to_fault = calls_to_fault })
+    pub stands : AtStage b p t.offered (by met).side.stage (record s { host = host; link = link; calls_to_fault = calls_to_fault })
 
   pub calls_row : (says : Body) (by : Bool → Outcome) (calls : ℕ) (answer : Delivered) (host : HostModel PortState) (link : Link) (calls_to_fault : Option ℕ) → 0 < calls → calls_at says (by false).side.stage (by false).answer ≡ calls → calls_to_fault ≡ schedule_after fails_next after_call calls s.calls_to_fault
       → ((met : Bool) → fails_within fails_next after_call calls s.calls_to_fault ≡ met → EndsSo by met answer host link calls_to_fault) → Ends b piece t n s says by answer host link calls_to_fault
@@ -304,12 +307,13 @@ module _ (b : Snapshot) (piece : ℕ) (t : TwoHosts) (w : TwoSeats) (n : HostNam
 
   -- ---- Offer
 
-  pub idle_where : (st : MoveStage) → is_active st ≡ false → StandsBy b p t.offered st s → IsIdle s.progress s.link
+  pub idle_where : (st : MoveStage) → is_active st ≡ false → AtStage b p t.offered st s → IsIdle s.progress s.link
   idle_where stage.Empty off is = is
   idle_where (stage.Released e) off is = is
   idle_where (stage.Filling e totals part place) off is = is.0
   idle_where (stage.Prepared e) off is = is.0
   idle_where stage.Running off is = absurd cc
+  idle_where stage.Draining off is = absurd cc
   idle_where (stage.Offering e totals) off is = absurd cc
 
   pub begins_row : (e : ℕ) (totals : List ℕ) → is_active h.side.stage ≡ false → Good (body.Offer totals) (Row.Stops (table.begins (record s.host { top = e }) e totals))
@@ -388,7 +392,7 @@ module _ (b : Snapshot) (piece : ℕ) (t : TwoHosts) (w : TwoSeats) (n : HostNam
   -- a row that makes no calls, where it would matter to others whether one failed
   pub quiet_of : (says : Body) (by : Bool → Outcome) (answer : Delivered) (host : HostModel PortState) (link : Link) (calls_to_fault : Option ℕ) (fa fb : ℕ) → seen_at link calls_to_fault fb ≡ seen_at s.link s.calls_to_fault fa
       → calls_at says (by false).side.stage (by false).answer ≡ 0 → is_fault (delivery_reply t.sent (by false).answer) ≡ false → answer ≡ (by false).answer
-      → host.name ≡ s.host.name → host.piece ≡ s.host.piece → host.stage ≡ (by false).side.stage → host.top ≡ (by false).side.top → StandsBy b p t.offered (by false).side.stage (record s { host = host })
+      → host.name ≡ s.host.name → host.piece ≡ s.host.piece → host.stage ≡ (by false).side.stage → host.top ≡ (by false).side.top → AtStage b p t.offered (by false).side.stage (record s { host = host })
       → Ends b piece t n s says by answer host link calls_to_fault
   quiet_of says by answer host link calls_to_fault fa fb same calls fine is name_is piece_is stage_is top_is stands =
       let e = quiet says (by false) answer host link calls_to_fault fa fb same calls fine is name_is piece_is stage_is top_is stands in
@@ -427,7 +431,7 @@ module _ (b : Snapshot) (piece : ℕ) (t : TwoHosts) (w : TwoSeats) (n : HostNam
       by : Bool → Outcome
       by fails = talk.gives (x fails) h.side e part offset
 
-      stands_so : StandsBy b p t.offered (stage.Offering e totals) s
+      stands_so : AtStage b p t.offered (stage.Offering e totals) s
       stands_so = stands_at (stage.Offering e totals) at
 
       v : Snapshot
@@ -439,9 +443,9 @@ module _ (b : Snapshot) (piece : ℕ) (t : TwoHosts) (w : TwoSeats) (n : HostNam
       link_is : link ≡ s.link
       link_is = the_same _ _ got.wired.link
 
-      stands_now : (host' : HostModel PortState) → host' ≡ s.host → StandsBy b p t.offered h.side.stage (record s { host = host'; link = link; calls_to_fault = calls_to_fault })
-      stands_now host' same = subst (λ (l : Link). StandsBy b p t.offered h.side.stage (record s { host = host'; link = l; calls_to_fault = calls_to_fault })) (sym link_is)
-          (subst (λ (q : HostModel PortState). StandsBy b p t.offered h.side.stage (record s { host = q; calls_to_fault = calls_to_fault })) (sym same) (subst (λ st. StandsBy b p t.offered st (record s { calls_to_fault = calls_to_fault })) (sym at) stands_so))
+      stands_now : (host' : HostModel PortState) → host' ≡ s.host → AtStage b p t.offered h.side.stage (record s { host = host'; link = link; calls_to_fault = calls_to_fault })
+      stands_now host' same = subst (λ (l : Link). AtStage b p t.offered h.side.stage (record s { host = host'; link = l; calls_to_fault = calls_to_fault })) (sym link_is)
+          (subst (λ (q : HostModel PortState). AtStage b p t.offered h.side.stage (record s { host = q; calls_to_fault = calls_to_fault })) (sym same) (subst (λ st. AtStage b p t.offered st (record s { calls_to_fault = calls_to_fault })) (sym at) stands_so))
 
       ends : (met : Bool) → (by met).side ≡ h.side → answer ≡ (by met).answer → is_fault (delivery_reply t.sent (by met).answer) ≡ met → host ≡ s.host → EndsSo by met answer host link calls_to_fault
       ends met seat is fault same = record {
@@ -452,7 +456,7 @@ module _ (b : Snapshot) (piece : ℕ) (t : TwoHosts) (w : TwoSeats) (n : HostNam
         pieces = ap (λ (l : Link). l.emulator.piece) link_is;
         stage_is = ap (λ (q : HostModel PortState). q.stage) same ∙ here.stage_is ∙ sym (ap (λ (z : SideState). z.stage) seat);
         top_is = ap (λ (q : HostModel PortState). q.top) same ∙ here.top_is ∙ sym (ap (λ (z : SideState). z.top) seat);
-        stands = subst (λ (z : SideState). StandsBy b p t.offered z.stage (record s { host = host; link = link; calls_to_fault = calls_to_fault })) (sym seat) (stands_now host same);
+        stands = subst (λ (z : SideState). AtStage b p t.offered z.stage (record s { host = host; link = link; calls_to_fault = calls_to_fault })) (sym seat) (stands_now host same);
       }
 
       go : (met : Bool) → fails_within fails_next after_call 3 s.calls_to_fault ≡ met → EndsSo by met answer host link calls_to_fault
@@ -477,7 +481,7 @@ module _ (b : Snapshot) (piece : ℕ) (t : TwoHosts) (w : TwoSeats) (n : HostNam
       total_here : (part : Part) → total_of totals part ≡ length (part_bytes (t.offered e) part)
       total_here part = ap (λ xs. total_of xs part) totals_are ∙ total-is (t.offered e) part
 
-      stands_so : StandsBy b p t.offered (stage.Offering e totals) s
+      stands_so : AtStage b p t.offered (stage.Offering e totals) s
       stands_so = stands_at (stage.Offering e totals) at
 
       go : (part : Part) → offset < total_of totals part → Good (body.Need part offset) (table.gives s.host e (total_of totals part) part offset) (λ fails. talk.gives (x fails) h.side e part offset)
@@ -491,7 +495,7 @@ module _ (b : Snapshot) (piece : ℕ) (t : TwoHosts) (w : TwoSeats) (n : HostNam
           ∙ ap (λ xs. delivers.Sent (message_from n e (body.Piece Record offset (slice xs offset s.host.piece)))) stands_so.2 ∙ ap (λ m. delivers.Sent (message_from n e (body.Piece Record offset (slice (part_bytes (t.offered e) Record) offset m)))) here.piece_is in
           quiet_of (body.Need Record offset) (λ fails. talk.gives (x fails) h.side e Record offset) answer host link calls_to_fault fa fb same refl refl said_is
           (ap (λ (q : HostModel PortState). q.name) made.host_is) (ap (λ (q : HostModel PortState). q.piece) made.host_is) (ap (λ (q : HostModel PortState). q.stage) made.host_is ∙ here.stage_is) (ap (λ (q : HostModel PortState). q.top) made.host_is ∙ here.top_is)
-          (subst (λ q. StandsBy b p t.offered h.side.stage (record s { host = q })) (sym made.host_is) here.stands)
+          (subst (λ q. AtStage b p t.offered h.side.stage (record s { host = q })) (sym made.host_is) here.stands)
 
   pub need_row : (st : MoveStage) (e : ℕ) (part : Part) (offset : ℕ) → h.side.stage ≡ st → Good (body.Need part offset) (table.on_need s.host st e part offset) (λ fails. talk.on_need (x fails) h.side st e part offset)
   need_row (stage.Offering d totals) e part offset at = both_by (body.Need part offset) (d == e && nat_lt offset (total_of totals part)) _ _ (λ fails. talk.gives (x fails) h.side e part offset) (λ fails. talk.ignored h.side)
@@ -500,6 +504,7 @@ module _ (b : Snapshot) (piece : ℕ) (t : TwoHosts) (w : TwoSeats) (n : HostNam
       (λ unmet. ignored (body.Need part offset))
   need_row stage.Empty e part offset at = ignored (body.Need part offset)
   need_row stage.Running e part offset at = ignored (body.Need part offset)
+  need_row stage.Draining e part offset at = ignored (body.Need part offset)
   need_row (stage.Released d) e part offset at = ignored (body.Need part offset)
   need_row (stage.Filling d totals next place) e part offset at = ignored (body.Need part offset)
   need_row (stage.Prepared d) e part offset at = ignored (body.Need part offset)

@@ -1,5 +1,6 @@
 pub mod Seating
 pub mod Lines
+pub mod Draining
 pub mod Exact
 pub mod Offers
 pub mod Offering
@@ -10,6 +11,5 @@ pub mod Bounds
 pub mod Deliveries
 pub mod Beginning
 pub mod Running
-pub mod Still
 pub mod Counting
 pub mod Arriving

@@ -20,13 +20,15 @@ use Rattle.vt_script.specs.declared.reply.Reply.TheVariants as reply
 use Rattle.vt_base.specs.declared.types.HostName.{HostName}
 use Rattle.move_codec.specs.declared.message.Message.{Message}
 use Rattle.move_core.specs.declared.answers.OfferFault.{OfferFault}
+use Rattle.move_core.specs.declared.answers.Offered.{Offered}
+use Rattle.move_core.specs.declared.answers.Offered.TheVariants as offered
 use Rattle.move_core.specs.declared.answers.OfferFault.TheVariants as fault
 use Rattle.move_core.specs.Model.{HostModel}
 use Rattle.move_core.specs.declared.stage.MoveStage.TheVariants as stage
 use Rattle.move_core.specs.Sides.{is_running, holds_device}
 use Rattle.move_core.specs.Hosts.{IsConsistentHost}
 use Rattle.move_core.specs.Requests.{WiresView, wires_view}
-use Rattle.move_core.specs.Calls.{Offers, OffersParts, Resumes}
+use Rattle.move_core.specs.Calls.{Offers, OffersParts, Resumes, EpochEnds}
 use Rattle.vt_script.specs.declared.event.Event.TheVariants.{Offer}
 use Rattle.vt_script.specs.declared.reply.Reply.{Reply}
 use Rattle.two_hosts.specs.Hosts.{TwoHosts}
@@ -40,12 +42,15 @@ use Rattle.two_seats.proofs.Exact.{Wired, lengths_of}
 use Rattle.two_seats.proofs.Offers as of
 use Rattle.two_seats.proofs.Offers.{blobs}
 
--- a device whose job is claimed
-record IsBusyAs (d e : DeviceModel PortState) (not_yet : NotYet) : Type 0 where
-  done : reset_reply (plain_device d) ≡ Err not_yet
-  same : plain_device e ≡ collected (plain_device d)
+number_is : (k number : ℕ) → let one : NotYet = record { number = k } in let two : NotYet = record { number = number } in one ≡ two → k ≡ number
+number_is k number is = ap (λ (x : NotYet). x.number) is
 
-busy_by : (regs : Regs) (number : ℕ) (own_buffer : Option (List ℕ)) (held cancelled : Bool) (s : PortState) (e : DeviceModel PortState) → IsBusyDevice plain (record { regs = regs; number = number; own_buffer = own_buffer; held = held; cancelled = cancelled; port = s }) e
+-- a device whose job is claimed
+pub record IsBusyAs (d e : DeviceModel PortState) (not_yet : NotYet) : Type 0 where
+  pub done : reset_reply (plain_device d) ≡ Err not_yet
+  pub same : plain_device e ≡ collected (plain_device d)
+
+pub busy_by : (regs : Regs) (number : ℕ) (own_buffer : Option (List ℕ)) (held cancelled : Bool) (s : PortState) (e : DeviceModel PortState) → IsBusyDevice plain (record { regs = regs; number = number; own_buffer = own_buffer; held = held; cancelled = cancelled; port = s }) e
     → IsBusyAs (record { regs = regs; number = number; own_buffer = own_buffer; held = held; cancelled = cancelled; port = s }) e (record { number = number })
 busy_by regs number (Some buf) held cancelled s e busy = let wrong : Some buf ≡ None = busy.away in absurd cc
 busy_by regs number None held cancelled (port_state.Claimed claimed) e busy =
@@ -110,21 +115,29 @@ module _ (b : Snapshot) (piece : ℕ) (t : TwoHosts) (w : TwoSeats) (n : HostNam
         some_is : {T : Type 0} (x y : T) → Some x ≡ Some y → x ≡ y
         some_is x y is = cc
 
-  pub offer_any : (r : Result Message OfferFault) (host : HostModel PortState) (link : Link) (calls_to_fault : Option ℕ) (fa fb number : ℕ) (bag : List Message)
-      → is_running s.host.stage ≡ true → Offers plain s.host (seen_at s.link s.calls_to_fault fa) r (seen_at link calls_to_fault fb) host → ((m : Message) → r ≡ Ok m → Keeps m number t.sent bag)
+  pub offer_any : (r : Result Offered OfferFault) (host : HostModel PortState) (link : Link) (calls_to_fault : Option ℕ) (fa fb number : ℕ) (bag : List Message)
+      → is_running s.host.stage ≡ true → Offers plain s.host (seen_at s.link s.calls_to_fault fa) r (seen_at link calls_to_fault fb) host → ((m : Message) → r ≡ Ok (offered.Sent m) → Keeps m number t.sent bag)
       → StepsBoth b piece t Offer (said_offer r number) (record (after host link calls_to_fault) { bag = bag_offer r bag w.bag })
   offer_any (Err fault.Stopped) host link calls_to_fault fa fb number bag on (stopped, same, is) keeps = absurd (let wrong : true ≡ false = sym on ∙ stopped in cc)
-  offer_any (Err (fault.NotYet k)) host link calls_to_fault fa fb number bag on (runs, same, stops, is) keeps =
+  offer_any (Ok (offered.Draining k)) host link calls_to_fault fa fb number bag on (runs, below, same, stops, is) keeps =
       let kept = unused link calls_to_fault fa fb same in
       let d = s.host.device in
       let busy = busy_by d.regs d.number d.own_buffer d.held d.cancelled d.port host.device stops.1 in
-      by_link reply.NotYet host link calls_to_fault kept.link_is (by_due reply.NotYet host calls_to_fault kept.calls_to_fault_is
-      (of.busy_steps b piece t w n f consistent runs host (record { number = d.number }) busy.done is busy.same))
+      let numbered : k ≡ d.number = number_is k d.number stops.0 in
+      by_link (reply.Draining k) host link calls_to_fault kept.link_is (by_due (reply.Draining k) host calls_to_fault kept.calls_to_fault_is
+      (subst (λ j. StepsBoth b piece t Offer (reply.Draining j) (with_seat w n (record s { host = host }))) (sym numbered)
+      (of.drains_steps b piece t w n f consistent runs host (record { number = d.number }) busy.done busy.same below is)))
   offer_any (Err fault.Device) host link calls_to_fault fa fb number bag on (runs, o) keeps =
       let kept = unused link calls_to_fault fa fb o.offers.1 in
       by_link reply.FailedDevice host link calls_to_fault kept.link_is (by_due reply.FailedDevice host calls_to_fault kept.calls_to_fault_is
       (of.lost_steps b piece t w n f consistent runs o.device o.stops host o.offers.0 (back_rest runs o.device o.stops o.held host o.offers.2 o.ends) (back_device runs o.device o.stops o.held host o.offers.2 o.ends)))
-  offer_any (Err fault.EpochEnd) host link calls_to_fault fa fb number bag on (runs, o) keeps =
+  offer_any (Err fault.EpochEnd) host link calls_to_fault fa fb number bag on (runs, EpochEnds.Claimed k last same stops is) keeps =
+      let kept = unused link calls_to_fault fa fb same in
+      let d = s.host.device in
+      let busy = busy_by d.regs d.number d.own_buffer d.held d.cancelled d.port host.device stops.1 in
+      by_link reply.EpochEnd host link calls_to_fault kept.link_is (by_due reply.EpochEnd host calls_to_fault kept.calls_to_fault_is
+      (of.end_busy_steps b piece t w n f consistent runs host (record { number = d.number }) busy.done busy.same last is))
+  offer_any (Err fault.EpochEnd) host link calls_to_fault fa fb number bag on (runs, EpochEnds.Unclaimed o) keeps =
       let kept = unused link calls_to_fault fa fb o.offers.2 in
       by_link reply.EpochEnd host link calls_to_fault kept.link_is (by_due reply.EpochEnd host calls_to_fault kept.calls_to_fault_is
       (of.end_steps b piece t w n f consistent runs o.device o.stops o.offers.0 host o.offers.1 (back_rest runs o.device o.stops o.held host o.offers.3 o.ends) (back_device runs o.device o.stops o.held host o.offers.3 o.ends)))
@@ -133,21 +146,20 @@ module _ (b : Snapshot) (piece : ℕ) (t : TwoHosts) (w : TwoSeats) (n : HostNam
       by_link reply.Link host link calls_to_fault (the_same _ _ exact.wired.link)
       (of.fault_steps b piece t w n f consistent runs o.device o.stops o.offers.0 (seen_at s.link s.calls_to_fault fa) (seen_at link calls_to_fault fb) (wired fa) fault host calls_to_fault o.offers.2 o.offers.1 refl
       (back_rest runs o.device o.stops o.held host o.offers.3 o.ends) (back_device runs o.device o.stops o.held host o.offers.3 o.ends))
-  offer_any (Ok m) host link calls_to_fault fa fb number bag on (runs, o) keeps =
+  offer_any (Ok (offered.Sent m)) host link calls_to_fault fa fb number bag on (runs, o) keeps =
       let exact = of.asked b piece t w n f consistent runs o.device o.stops o.offers.0 (seen_at s.link s.calls_to_fault fa) (seen_at link calls_to_fault fb) (wired fa) (Ok o.offers.1.totals) o.offers.1.asked in
-      let offered : OffersParts (record s.host { device = o.device }) (seen_at s.link s.calls_to_fault fa) (seen_at link calls_to_fault fb) m host = subst (OffersParts (record s.host { device = o.device }) (seen_at s.link s.calls_to_fault fa) (seen_at link calls_to_fault fb) m) (sym o.ends) o.offers.1 in
-      let steps = of.offered_steps b piece t w n f consistent runs o.device o.stops o.offers.0 (seen_at s.link s.calls_to_fault fa) (seen_at link calls_to_fault fb) (wired fa) m host calls_to_fault number bag offered refl (keeps m refl) in
-      let named : reply.Offered m.epoch number ≡ reply.Offered (s.host.top + 1) number = ap (λ (x : Message). reply.Offered x.epoch number) offered.said in
+      let parts : OffersParts (record s.host { device = o.device }) (seen_at s.link s.calls_to_fault fa) (seen_at link calls_to_fault fb) m host = subst (OffersParts (record s.host { device = o.device }) (seen_at s.link s.calls_to_fault fa) (seen_at link calls_to_fault fb) m) (sym o.ends) o.offers.1 in
+      let steps = of.offered_steps b piece t w n f consistent runs o.device o.stops o.offers.0 (seen_at s.link s.calls_to_fault fa) (seen_at link calls_to_fault fb) (wired fa) m host calls_to_fault number bag parts refl (keeps m refl) in
+      let named : reply.Offered m.epoch number ≡ reply.Offered (s.host.top + 1) number = ap (λ (x : Message). reply.Offered x.epoch number) parts.said in
       subst (λ (x : Link). StepsBoth b piece t Offer (reply.Offered m.epoch number) (record (after host x calls_to_fault) { bag = bag })) (sym (the_same _ _ exact.wired.link))
       (subst (λ (x : Reply). StepsBoth b piece t Offer x (record (with_seat w n (record s { host = host; calls_to_fault = calls_to_fault })) { bag = bag })) (sym named) steps)
 
   -- an offer fails by the wires alone
-  pub offer_by_link : (r : Result Message OfferFault) (host : HostModel PortState) (link : Link) (calls_to_fault : Option ℕ) (fa fb : ℕ) → Offers plain s.host (seen_at s.link s.calls_to_fault fa) r (seen_at link calls_to_fault fb) host → IsByLink r
+  pub offer_by_link : (r : Result Offered OfferFault) (host : HostModel PortState) (link : Link) (calls_to_fault : Option ℕ) (fa fb : ℕ) → Offers plain s.host (seen_at s.link s.calls_to_fault fa) r (seen_at link calls_to_fault fb) host → IsByLink r
   offer_by_link (Err (fault.Wires fault)) host link calls_to_fault fa fb (runs, o) =
       let exact = of.asked b piece t w n f consistent runs o.device o.stops o.offers.0 (seen_at s.link s.calls_to_fault fa) (seen_at link calls_to_fault fb) (wired fa) (Err fault) o.offers.2 in
       link_of (fails_within fails_next after_call 9 s.calls_to_fault) fault (lengths_of blobs (tpm_at b t.history)) exact.done exact.lost
   offer_by_link (Err fault.Stopped) host link calls_to_fault fa fb o = tt
-  offer_by_link (Err (fault.NotYet k)) host link calls_to_fault fa fb o = tt
   offer_by_link (Err fault.Device) host link calls_to_fault fa fb o = tt
   offer_by_link (Err fault.EpochEnd) host link calls_to_fault fa fb o = tt
-  offer_by_link (Ok m) host link calls_to_fault fa fb o = tt
+  offer_by_link (Ok a) host link calls_to_fault fa fb o = tt

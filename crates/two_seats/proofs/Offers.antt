@@ -20,7 +20,7 @@ use Rattle.ctrl_client.specs.declared.fault.ClientFault.{ClientFault}
 use Rattle.ctrl_client.specs.Schedules.{fails_within}
 use Rattle.crb_history.specs.Snapshot.{Snapshot, IsValidSnapshot}
 use Rattle.crb_history.specs.Event.{History}
-use Rattle.crb_history.specs.Device.{phase_of, executed, last_command}
+use Rattle.crb_history.specs.Device.{phase_of, number_of, executed, last_command}
 use Rattle.crb_history.specs.Cancelling.{cancelled_in_emulator}
 use Rattle.crb_history.specs.Continued.{snapshot_after, device_after}
 use Rattle.vt_transcript.specs.Replies.{is_under_way}
@@ -41,22 +41,23 @@ use Rattle.move_core.specs.Calls.{OffersParts}
 use Rattle.vt_script.specs.declared.event.Event.TheVariants.{Offer}
 use Rattle.vt_script.specs.declared.reply.Reply.{Reply}
 use Rattle.two_hosts.specs.Parts.{part_bytes, totals_of}
-use Rattle.two_hosts.specs.Hosts.{TwoHosts, HostState, host_of, with_host, stage_at, running_host, bag_size, counted, with_offer, offering_host, after_offer, offered_by, fails_at}
+use Rattle.two_hosts.specs.Hosts.{TwoHosts, HostState, host_of, with_host, host_at, stage_at, running_host, bag_size, counted, with_offer, offering_host, after_offer, offered_by, fails_at}
 use Rattle.two_hosts.specs.Replies.{offer_reply, offer_reply_at}
 use Rattle.two_hosts.specs.Invariant.{MatchesOffer, side_at, PairInvariant, IsPresent}
-use Rattle.two_hosts.proofs.InvariantKept.{running_stage}
+use Rattle.two_hosts.proofs.InvariantKept.{free_active}
+use Rattle.two_hosts.proofs.RestActs.{rests as rest_passive}
 use Rattle.vt_seat.specs.Wires.{fails_next, after_call}
 use Rattle.vt_seat.specs.Follows.{RefinesAt, IsInjected, tpm_at, place_of}
 use Rattle.vt_seat.proofs.Jobs.{Rests, to_rest}
 use Rattle.vt_seat.proofs.InjectedFaults.{fails-reaches, due-passed, due-failed, due-same}
 use Rattle.vt_seat.proofs.Resets.{IsBusy}
 use Rattle.crb_machine.specs.declared.device.NotYet.{NotYet}
-use Rattle.vt_seat.proofs.Savings.{IsStopped, stopped_where, stands-on, busy_at}
+use Rattle.vt_seat.proofs.Savings.{IsStopped, stopped_where, stands-on, busy_at, value_at}
 use Rattle.vt_seat.specs.State.{SeatState}
-use Rattle.two_seats.specs.Seats.{IsIdle, HasValues, StandsBy, IsSeat}
+use Rattle.two_seats.specs.Seats.{IsIdle, HasValues, AtStage, IsSeat}
 use Rattle.two_seats.specs.Both.{TwoSeats, seat_of, with_seat, FollowsBoth, StepsBoth, Keeps}
 use Rattle.vt_seat.proofs.Going.{stopped-as}
-use Rattle.two_seats.proofs.Seating.{seated_both, other_still, running_host-is}
+use Rattle.two_seats.proofs.Seating.{seated_both, other_still, held_still, running_host-is}
 use Rattle.two_seats.proofs.Lines.{Leads, steps_by, more_some}
 use Rattle.two_seats.proofs.Exact.{Wired, Gives, Totals, totals_exact, lengths_of}
 
@@ -75,25 +76,26 @@ module _ (offered : ℕ → Snapshot) (e : ℕ) (new : Snapshot) where
   pub noted_here : with_offer offered e new e ≡ new
   noted_here = cond-true (e == e) new (offered e) (eq-eqb e e refl)
 
-  pub stands_noted : (b : Snapshot) (p : History) (x : MoveStage) (top : ℕ) (s : (SeatState PortState)) → MatchesOffer offered x top → top < e → StandsBy b p offered x s → StandsBy b p (with_offer offered e new) x s
+  pub stands_noted : (b : Snapshot) (p : History) (x : MoveStage) (top : ℕ) (s : (SeatState PortState)) → MatchesOffer offered x top → top < e → AtStage b p offered x s → AtStage b p (with_offer offered e new) x s
   stands_noted b p stage.Empty top s seated below is = is
   stands_noted b p stage.Running top s seated below is = is
+  stands_noted b p stage.Draining top s seated below is = is
   stands_noted b p (stage.Released d) top s seated below is = is
   stands_noted b p (stage.Offering d totals) top s seated below is = rw (noted_else d (λ same. omega (arith, seated.0, below, same))) is
   stands_noted b p (stage.Filling d totals part place) top s seated below is = rw (noted_else d (λ same. omega (arith, seated.0, below, same))) is
   stands_noted b p (stage.Prepared d) top s seated below is = rw (noted_else d (λ same. omega (arith, seated, below, same))) is
 
 -- the other host's side and top fit
-rest_seated : (b : Snapshot) (t : TwoHosts) (n : HostName) → (PairInvariant : (holder : HostName) × PairInvariant holder (other holder) (side_at t holder) (side_at t (other holder)) t.offered (IsPresent b t.history) t.sent) → is_running (stage_at t n) ≡ true
+rest_seated : (b : Snapshot) (t : TwoHosts) (n : HostName) → (PairInvariant : (holder : HostName) × PairInvariant holder (other holder) (side_at t holder) (side_at t (other holder)) t.offered (IsPresent b t.history) t.sent) → holds_device (stage_at t n) ≡ false
     → MatchesOffer t.offered (stage_at t (other n)) (side_at t (other n)).top × ((side_at t (other n)).top ≤ (side_at t n).top)
 rest_seated b t n (holder, k) runs = go holder n k runs
   where
-    go : (holder n : HostName) → PairInvariant holder (other holder) (side_at t holder) (side_at t (other holder)) t.offered (IsPresent b t.history) t.sent → is_running (stage_at t n) ≡ true
+    go : (holder n : HostName) → PairInvariant holder (other holder) (side_at t holder) (side_at t (other holder)) t.offered (IsPresent b t.history) t.sent → holds_device (stage_at t n) ≡ false
         → MatchesOffer t.offered (stage_at t (other n)) (side_at t (other n)).top × ((side_at t (other n)).top ≤ (side_at t n).top)
     go A A k runs = (k.sides.rest, k.sides.order)
     go B B k runs = (k.sides.rest, k.sides.order)
-    go A B k runs = absurd (Rattle.two_hosts.proofs.RestActs.rests A B t.a.side t.b.side t.offered _ t.sent k Rattle.move_core.specs.declared.side.Side.TheVariants.Running (ap Rattle.move_core.specs.Sides.side_of (running_stage t.b.side.stage runs)))
-    go B A k runs = absurd (Rattle.two_hosts.proofs.RestActs.rests B A t.b.side t.a.side t.offered _ t.sent k Rattle.move_core.specs.declared.side.Side.TheVariants.Running (ap Rattle.move_core.specs.Sides.side_of (running_stage t.a.side.stage runs)))
+    go A B k runs = absurd (free_active t.b.side.stage runs (rest_passive A B t.a.side t.b.side t.offered _ t.sent k _ refl))
+    go B A k runs = absurd (free_active t.a.side.stage runs (rest_passive B A t.b.side t.a.side t.offered _ t.sent k _ refl))
 
 -- ---- a running host whose device was stopped
 
@@ -113,14 +115,14 @@ module _ (b : Snapshot) (piece : ℕ) (t : TwoHosts) (w : TwoSeats) (n : HostNam
   at : stage_at t n ≡ stage.Running
   at = sym here.stage_is ∙ runs
 
-  still : is_running (stage_at t (other n)) ≡ false
-  still = other_still b t n f.invariant (ap is_running at)
+  still : holds_device (stage_at t (other n)) ≡ true
+  still = other_still b t n f.invariant (ap holds_device at)
 
   found : running_host t ≡ Some n
-  found = running_host-is t n (ap is_running at) still
+  found = running_host-is t n (ap is_running at) (held_still (stage_at t (other n)) still)
 
   stands : RefinesAt b p (plain_device s.host.device) s.progress s.link
-  stands = subst (λ x. StandsBy b p t.offered x s) at here.stands
+  stands = subst (λ x. AtStage b p t.offered x s) at here.stands
 
   not_held : s.host.device.held ≡ false
   not_held = consistent.matches_side.held ∙ ap (λ x. holds_device x) runs
@@ -138,7 +140,7 @@ module _ (b : Snapshot) (piece : ℕ) (t : TwoHosts) (w : TwoSeats) (n : HostNam
           stage_is = ap (λ (x : HostModel PortState). x.stage) rest ∙ here.stage_is;
           top_is = ap (λ (x : HostModel PortState). x.top) rest ∙ here.top_is;
           calls_to_fault = counts;
-          stands = subst (λ x. StandsBy b p t.offered x (record s { host = host; calls_to_fault = calls_to_fault })) (sym at) (stands-on b p (plain_device s.host.device) (plain_device host.device) s.progress s.link stands device);
+          stands = subst (λ x. AtStage b p t.offered x (record s { host = host; calls_to_fault = calls_to_fault })) (sym at) (stands-on b p (plain_device s.host.device) (plain_device host.device) s.progress s.link stands device);
         })
         (f.seats (other n));
     fits = f.fits;
@@ -147,7 +149,7 @@ module _ (b : Snapshot) (piece : ℕ) (t : TwoHosts) (w : TwoSeats) (n : HostNam
   }
 
   -- the reply by the tests in their order
-  reply_is : (r : Reply) → r ≡ offer_reply_at (is_lost (phase_of b p)) (is_under_way b p) t h → r ≡ offer_reply b t (running_host t)
+  reply_is : (r : Reply) → r ≡ offer_reply_at (is_lost (phase_of b p)) (is_under_way b p) (number_of b p) t h → r ≡ offer_reply b t (running_host t)
   reply_is r is = is ∙ sym (ap (offer_reply b t) found)
 
   -- a refusal is a step
@@ -159,13 +161,48 @@ module _ (b : Snapshot) (piece : ℕ) (t : TwoHosts) (w : TwoSeats) (n : HostNam
       (subst (λ k. Leads b piece p (with_seat w n (record s { host = host; calls_to_fault = calls_to_fault })) (after_offer b t k r)) (sym found) same)
 
   -- a command is claimed and unfinished
-  pub busy_steps : (host : HostModel PortState) (not_yet : NotYet) → reset_reply (plain_device s.host.device) ≡ Err not_yet → host ≡ record s.host { device = host.device } → plain_device host.device ≡ collected (plain_device s.host.device)
-      → StepsBoth b piece t Offer reply.NotYet (with_seat w n (record s { host = host }))
-  busy_steps host not_yet early rest same =
-      let busy : IsBusy b p = busy_at b p (plain_device s.host.device) s.progress s.link not_yet stands early in
-      let lives : is_lost (phase_of b p) ≡ false = ap is_lost busy.executing in
-      let l = refused reply.NotYet s.calls_to_fault host (due-same h.injected_fault h.calls s.calls_to_fault here.calls_to_fault) rest same in
-      refused_steps reply.NotYet s.calls_to_fault host (λ e m is. absurd cc) (reply_is reply.NotYet (rw (lives, busy.busy) refl)) l l
+  module _ (host : HostModel PortState) (not_yet : NotYet) (early : reset_reply (plain_device s.host.device) ≡ Err not_yet) (same : plain_device host.device ≡ collected (plain_device s.host.device)) where
+    busy : IsBusy b p
+    busy = busy_at b p (plain_device s.host.device) s.progress s.link not_yet stands early
+
+    lives_on : is_lost (phase_of b p) ≡ false
+    lives_on = ap is_lost busy.executing
+
+    -- the greatest epoch was used
+    pub end_busy_steps : s.host.top ≡ 2 ^ 64 - 1 → host ≡ record s.host { device = host.device } → StepsBoth b piece t Offer reply.EpochEnd (with_seat w n (record s { host = host }))
+    end_busy_steps last rest =
+        let l = refused reply.EpochEnd s.calls_to_fault host (due-same h.injected_fault h.calls s.calls_to_fault here.calls_to_fault) rest same in
+        let top : (h.side.top == 2 ^ 64 - 1) ≡ true = eq-eqb h.side.top (2 ^ 64 - 1) (sym here.top_is ∙ last) in
+        refused_steps reply.EpochEnd s.calls_to_fault host (λ e m is. absurd cc) (reply_is reply.EpochEnd (rw (lives_on, top) refl)) l l
+
+    drains_led : host ≡ record s.host { stage = stage.Draining; device = host.device } → Leads b piece p (with_seat w n (record s { host = host })) (with_host t n (host_at stage.Draining h))
+    drains_led rest = record {
+      legal = λ legal. legal;
+      seats = seated_both b piece p t.offered t w n (host_at stage.Draining h) (record s { host = host })
+          (record {
+            name_is = ap (λ (x : HostModel PortState). x.name) rest ∙ here.name_is;
+            piece_is = ap (λ (x : HostModel PortState). x.piece) rest ∙ here.piece_is;
+            pieces = here.pieces;
+            stage_is = ap (λ (x : HostModel PortState). x.stage) rest;
+            top_is = ap (λ (x : HostModel PortState). x.top) rest ∙ here.top_is;
+            calls_to_fault = here.calls_to_fault;
+            stands = stands-on b p (plain_device s.host.device) (plain_device host.device) s.progress s.link stands same;
+          })
+          (f.seats (other n));
+      fits = f.fits;
+      some = f.some;
+      bag_is = f.bag_is;
+    }
+
+    -- the host drains
+    pub drains_steps : s.host.top < 2 ^ 64 - 1 → host ≡ record s.host { stage = stage.Draining; device = host.device } → StepsBoth b piece t Offer (reply.Draining not_yet.number) (with_seat w n (record s { host = host }))
+    drains_steps below rest =
+        let numbered : not_yet.number ≡ number_of b p = value_at b p (plain_device s.host.device) s.progress s.link not_yet stands early in
+        let top : (h.side.top == 2 ^ 64 - 1) ≡ false = ne_eqb h.side.top (2 ^ 64 - 1) (λ is. omega (arith, below, is, here.top_is)) in
+        let due : reply.Draining (number_of b p) ≡ offer_reply_at (is_lost (phase_of b p)) (is_under_way b p) (number_of b p) t h = rw (lives_on, top, busy.busy) refl in
+        steps_by b piece t w (with_seat w n (record s { host = host })) Offer (reply.Draining not_yet.number) f
+        (reply_is (reply.Draining not_yet.number) (ap reply.Draining numbered ∙ due))
+        (subst (λ k. Leads b piece p (with_seat w n (record s { host = host })) (after_offer b t k (reply.Draining not_yet.number))) (sym found) (drains_led rest))
 
   module _ (device : DeviceModel PortState) (stops : Stops plain s.host.device (Ok tt) device) where
     stopped_values : held_values device ≡ values_at (collected (plain_device s.host.device))
@@ -298,7 +335,7 @@ module _ (b : Snapshot) (piece : ℕ) (t : TwoHosts) (w : TwoSeats) (n : HostNam
           others : IsSeat b piece p (with_offer t.offered e v) (other n) (host_of t (other n)) (seat_of w (other n))
           others =
               let is = f.seats (other n) in
-              let rest = rest_seated b t n f.invariant (ap is_running at) in
+              let rest = rest_seated b t n f.invariant (ap holds_device at) in
               record {
                 name_is = is.name_is;
                 piece_is = is.piece_is;

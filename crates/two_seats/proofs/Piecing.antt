@@ -50,7 +50,7 @@ use Rattle.two_hosts.specs.Invariant.{MatchesOffer}
 use Rattle.vt_seat.specs.Wires.{fails_next, after_call}
 use Rattle.vt_seat.proofs.Steps.{the_same}
 use Rattle.vt_seat.specs.State.{SeatState}
-use Rattle.two_seats.specs.Seats.{IsIdle, Comes, gathered, StandsBy, IsSeat}
+use Rattle.two_seats.specs.Seats.{IsIdle, Comes, gathered, AtStage, IsSeat}
 use Rattle.two_seats.specs.Both.{TwoSeats, seat_of, FollowsBoth}
 use Rattle.two_seats.proofs.Exact.{Wired, Asked, asks_exact, within_joined, schedule_joined, schedule_failed, within_more, true-false}
 use Rattle.two_seats.proofs.Puts.{prefix_fine, put_desk, put_turn, whole_gathers, init_turn}
@@ -109,7 +109,7 @@ module _ (b : Snapshot) (piece : ℕ) (t : TwoHosts) (w : TwoSeats) (n : HostNam
     pub total_here : (part : Part) → total_of totals part ≡ length (part_bytes v part)
     total_here part = ap (λ xs. total_of xs part) totals_are ∙ d.total-is b piece t w n f consistent v part
 
-    pub stands_so : StandsBy b t.history t.offered (stage.Filling e totals next place) s
+    pub stands_so : AtStage b t.history t.offered (stage.Filling e totals next place) s
     stands_so = d.stands_at b piece t w n f consistent (stage.Filling e totals next place) at
 
     pub prefix : (kept : List ℕ) → kept ≡ take place (part_bytes v next) → kept ++ bytes ≡ take there (part_bytes v next)
@@ -139,7 +139,7 @@ module _ (b : Snapshot) (piece : ℕ) (t : TwoHosts) (w : TwoSeats) (n : HostNam
     abbrev r_by : Bool → Bool → Outcome
     r_by = by_of e totals Record place offset bytes at some within exact
 
-    r_stands : StandsBy b t.history t.offered (stage.Filling e totals Record place) s
+    r_stands : AtStage b t.history t.offered (stage.Filling e totals Record place) s
     r_stands = stands_so e totals Record place offset bytes at some within exact
 
     r_prefix : s.host.record_bytes ++ bytes ≡ take r_there (part_bytes r_v Record)
@@ -149,7 +149,7 @@ module _ (b : Snapshot) (piece : ℕ) (t : TwoHosts) (w : TwoSeats) (n : HostNam
     record_more answer host link calls_to_fault fa fb (same, made) =
         d.quiet_of b piece t w n f consistent (body.Piece Record offset bytes) (r_by true) answer host link calls_to_fault fa fb same refl refl (made.answer_is ∙ d.named b piece t w n f consistent e (body.Need Record r_there))
         (ap (λ (k : HostModel PortState). k.name) made.host_is) (ap (λ (k : HostModel PortState). k.piece) made.host_is) (ap (λ (k : HostModel PortState). k.stage) made.host_is) (ap (λ (k : HostModel PortState). k.top) made.host_is ∙ here.top_is)
-        (subst (λ k. StandsBy b t.history t.offered (stage.Filling e totals Record r_there) (record s { host = k })) (sym made.host_is) (r_stands.0, record { fit = f.fits e; off = r_stands.1.off; come = (r_prefix, r_stands.1.come.1) }))
+        (subst (λ k. AtStage b t.history t.offered (stage.Filling e totals Record r_there) (record s { host = k })) (sym made.host_is) (r_stands.0, record { fit = f.fits e; off = r_stands.1.off; come = (r_prefix, r_stands.1.come.1) }))
 
     module _ (whole : r_there ≡ length (part_bytes r_v Record)) where
       whole_text : s.host.record_bytes ++ bytes ≡ encode_record r_v.device
@@ -164,7 +164,7 @@ module _ (b : Snapshot) (piece : ℕ) (t : TwoHosts) (w : TwoSeats) (n : HostNam
               let values_are : values ≡ r_v.device = values_once values r_v.device is_said.fit (f.fits e).device (sym is_said.spelled ∙ whole_text) in
               d.quiet_of b piece t w n f consistent (body.Piece Record offset bytes) (r_by false) answer host link calls_to_fault fa fb same refl refl (made.answer_is ∙ d.named b piece t w n f consistent e (body.Need Permanent 0))
               (ap (λ (k : HostModel PortState). k.name) made.host_is) (ap (λ (k : HostModel PortState). k.piece) made.host_is) (ap (λ (k : HostModel PortState). k.stage) made.host_is) (ap (λ (k : HostModel PortState). k.top) made.host_is ∙ here.top_is)
-              (subst (λ k. StandsBy b t.history t.offered (stage.Filling e totals Permanent 0) (record s { host = k })) (sym made.host_is) (r_stands.0, record { fit = f.fits e; off = r_stands.1.off; come = (values_are, r_stands.1.come.1) }))
+              (subst (λ k. AtStage b t.history t.offered (stage.Filling e totals Permanent 0) (record s { host = k })) (sym made.host_is) (r_stands.0, record { fit = f.fits e; off = r_stands.1.off; come = (values_are, r_stands.1.come.1) }))
 
     pub record_row : Good (body.Piece Record offset bytes) (table.takes_piece s.host e totals Record r_there bytes) (r_by (nat_lt r_there (total_of totals Record)))
     record_row = split e totals Record place offset bytes at some within exact (nat_lt r_there (total_of totals Record)) _ _ (λ more. record_more) (λ less. record_full (full e totals Record place offset bytes at some within exact less))
@@ -180,7 +180,7 @@ module _ (b : Snapshot) (piece : ℕ) (t : TwoHosts) (w : TwoSeats) (n : HostNam
     abbrev b_there : ℕ
     b_there = place + length bytes
 
-    b_stands : StandsBy b t.history t.offered (stage.Filling e totals next place) s
+    b_stands : AtStage b t.history t.offered (stage.Filling e totals next place) s
     b_stands = stands_so e totals next place offset bytes at some within exact
 
     -- the blob so far is a prefix of it
@@ -288,7 +288,7 @@ module _ (b : Snapshot) (piece : ℕ) (t : TwoHosts) (w : TwoSeats) (n : HostNam
     abbrev l_there : ℕ
     l_there = place + length bytes
 
-    l_stands : StandsBy b t.history t.offered (stage.Filling e totals Saved place) s
+    l_stands : AtStage b t.history t.offered (stage.Filling e totals Saved place) s
     l_stands = stands_so e totals Saved place offset bytes at some within exact
 
     come : (held_values s.host.device ≡ l_v.device) × (s.link.emulator.gathers ≡ gathered (part_bytes l_v Permanent) (part_bytes l_v Volatile) (take place (part_bytes l_v Saved)))
@@ -482,6 +482,7 @@ module _ (b : Snapshot) (piece : ℕ) (t : TwoHosts) (w : TwoSeats) (n : HostNam
       (λ unmet. d.ignored b piece t w n f consistent (body.Piece part offset bytes))
   piece_row stage.Empty e part offset bytes some exact at = d.ignored b piece t w n f consistent (body.Piece part offset bytes)
   piece_row stage.Running e part offset bytes some exact at = d.ignored b piece t w n f consistent (body.Piece part offset bytes)
+  piece_row stage.Draining e part offset bytes some exact at = d.ignored b piece t w n f consistent (body.Piece part offset bytes)
   piece_row (stage.Offering m totals) e part offset bytes some exact at = d.ignored b piece t w n f consistent (body.Piece part offset bytes)
   piece_row (stage.Released m) e part offset bytes some exact at = d.ignored b piece t w n f consistent (body.Piece part offset bytes)
   piece_row (stage.Prepared m) e part offset bytes some exact at = d.ignored b piece t w n f consistent (body.Piece part offset bytes)

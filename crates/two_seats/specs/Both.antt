@@ -11,9 +11,13 @@ use Rattle.vt_base.specs.declared.types.HostName.TheVariants.{A, B}
 use Rattle.move_codec.specs.declared.message.Message.{Message}
 use Rattle.move_codec.specs.Encoding.{HasPiece}
 use Rattle.move_core.specs.Model.{HostModel}
-use Rattle.move_core.specs.Sides.{is_running, other}
+use Rattle.move_core.specs.Sides.{is_running, is_draining, other}
 use Rattle.move_core.specs.declared.answers.OfferFault.{OfferFault}
 use Rattle.move_core.specs.declared.answers.OfferFault.TheVariants as fault
+use Rattle.move_core.specs.declared.answers.Offered.{Offered}
+use Rattle.move_core.specs.declared.answers.Offered.TheVariants as offered
+use Rattle.move_core.specs.declared.answers.Gave.{Gave}
+use Rattle.move_core.specs.declared.answers.Gave.TheVariants as gave
 use Rattle.move_core.specs.declared.answers.Delivered.{Delivered}
 use Rattle.move_core.specs.declared.answers.Delivered.TheVariants as delivers
 use Rattle.vt_script.specs.declared.event.Event.{Event}
@@ -21,9 +25,9 @@ use Rattle.vt_script.specs.declared.event.Event.TheVariants.{Access, Work, Ask, 
 use Rattle.vt_script.specs.declared.reply.Reply.{Reply}
 use Rattle.vt_script.specs.declared.reply.Reply.TheVariants as reply
 use Rattle.two_hosts.specs.Deliveries.{Outcome}
-use Rattle.two_hosts.specs.Hosts.{TwoHosts, pick, host_of, running_host, message_at, after_line, hosts_after, bag_size}
+use Rattle.two_hosts.specs.Hosts.{TwoHosts, pick, host_of, running_host, working_host, message_at, after_line, hosts_after, bag_size}
 use Rattle.two_hosts.specs.Replies.{AnswersLine, IsRun, reason_in}
-use Rattle.two_hosts.specs.Invariant.{HostsInvariant, IsSent}
+use Rattle.two_hosts.specs.Invariant.{DrainsUnderWay, HostsInvariant, IsSent}
 use Rattle.vt_seat.specs.Follows.{CountsFault}
 use Rattle.vt_seat.specs.State.{SeatState}
 use Rattle.two_seats.specs.Seats.{IsSeat}
@@ -44,6 +48,10 @@ with_seat w n s = record w { a = pick n s w.a; b = pick n w.b s }
 abbrev pub running_of : TwoSeats → Option HostName
 running_of w = if is_running w.a.host.stage then Some A else (if is_running w.b.host.stage then Some B else None)
 
+-- the host that drains
+abbrev pub draining_of : TwoSeats → Option HostName
+draining_of w = if is_draining w.a.host.stage then Some A else (if is_draining w.b.host.stage then Some B else None)
+
 -- what is known of one of the hosts
 abbrev pub one_of : TwoHosts → HostName → OneHost
 one_of t n = record { history = t.history; injected_fault = (host_of t n).injected_fault; count = (host_of t n).calls }
@@ -52,6 +60,7 @@ one_of t n = record { history = t.history; injected_fault = (host_of t n).inject
 pub record FollowsBoth (b : Snapshot) (piece : ℕ) (t : TwoHosts) (w : TwoSeats) : Type 0 where
   pub fit : IsValid b.tpm
   pub invariant : HostsInvariant b t
+  pub drains : DrainsUnderWay b t
   pub fits : (e : ℕ) → IsValidSnapshot (t.offered e)
   pub seats : (n : HostName) → IsSeat b piece t.history t.offered n (host_of t n) (seat_of w n)
   pub some : (m : Message) → IsSent t.sent m → HasPiece m.body
@@ -81,7 +90,7 @@ receiver_of (Some m) = Some m.to
 -- the host whose wires a line may use
 abbrev pub acts_on : TwoHosts → Event → Option HostName
 acts_on t (Access access) = running_host t
-acts_on t Work = running_host t
+acts_on t Work = working_host t
 acts_on t Ask = running_host t
 acts_on t Reset = running_host t
 acts_on t Offer = running_host t
@@ -119,18 +128,55 @@ Keeps m number sent new = KeepsIn bag_size m number sent new
 -- ---- the replies of a host that offers, and of one that takes a message
 
 -- the reply for what an offer came to, with the number of its message
-abbrev pub said_offer : Result Message OfferFault → ℕ → Reply
-said_offer (Ok m) number = reply.Offered m.epoch number
+abbrev pub said_offer : Result Offered OfferFault → ℕ → Reply
+said_offer (Ok (offered.Sent m)) number = reply.Offered m.epoch number
+said_offer (Ok (offered.Draining k)) number = reply.Draining k
 said_offer (Err fault.Stopped) number = reply.Stopped
 said_offer (Err fault.Device) number = reply.FailedDevice
-said_offer (Err (fault.NotYet k)) number = reply.NotYet
 said_offer (Err fault.EpochEnd) number = reply.EpochEnd
 said_offer (Err (fault.Wires f)) number = reply.Link
 
 -- the bag after it
-abbrev pub bag_offer : Result Message OfferFault → List Message → List Message → List Message
-bag_offer (Ok m) new old = new
-bag_offer (Err f) new old = old
+abbrev pub bag_offer : Result Offered OfferFault → List Message → List Message → List Message
+bag_offer (Ok (offered.Sent m)) new old = new
+bag_offer _ new old = old
+
+-- ---- the replies of a host that drains
+
+-- the reply to the end of a command that an offer follows, with its epoch and the number of its message
+abbrev pub ended_offered : Reply → ℕ → ℕ → Reply
+ended_offered (reply.Done k) epoch number = reply.DoneOffered k epoch number
+ended_offered (reply.Cancelled k) epoch number = reply.CancelledOffered k epoch number
+ended_offered r epoch number = r
+
+-- and to one behind which a call failed
+abbrev pub ended_link : Reply → Reply
+ended_link (reply.Done k) = reply.DoneLink k
+ended_link (reply.Cancelled k) = reply.CancelledLink k
+ended_link r = r
+
+-- the reply for the worker's step and what followed it
+abbrev pub said_drained : Reply → Result (Option Message) OfferFault → ℕ → Reply
+said_drained r (Ok (Some m)) number = ended_offered r m.epoch number
+said_drained r (Err (fault.Wires f)) number = ended_link r
+said_drained r _ number = r
+
+-- the bag after it
+abbrev pub bag_drained : Result (Option Message) OfferFault → List Message → List Message → List Message
+bag_drained (Ok (Some m)) new old = new
+bag_drained _ new old = old
+
+-- ---- the replies of a host that takes its offer back
+
+abbrev pub said_give_up : Gave → ℕ → Option Reply
+said_give_up gave.NotOffering number = None
+said_give_up gave.Undrained number = Some reply.Resumed
+said_give_up (gave.Abort m) number = Some (reply.ResumedSent number)
+
+-- the bag after it
+abbrev pub bag_give_up : Gave → List Message → List Message → List Message
+bag_give_up (gave.Abort m) new old = new
+bag_give_up _ new old = old
 
 -- the reply for what a delivery came to, with the number of the message that is sent
 abbrev pub said_delivery : Delivered → ℕ → Reply

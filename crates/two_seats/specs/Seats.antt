@@ -51,13 +51,14 @@ pub record HasFilled (v : Snapshot) (part : Part) (place : ℕ) (bytes : List �
   pub come : Comes v part place bytes (held_values d) l.emulator.gathers
 
 -- what a side says of its host, worker and emulator
-abbrev pub StandsBy : Snapshot → History → (ℕ → Snapshot) → MoveStage → SeatState PortState → Type 0
-StandsBy b p offered stage.Running s = RefinesAt b p (plain_device s.host.device) s.progress s.link
-StandsBy b p offered (stage.Offering e totals) s = IsIdle s.progress s.link × HasValues (offered e) s.host.device s.link × (s.host.record_bytes ≡ part_bytes (offered e) Record)
-StandsBy b p offered (stage.Filling e totals part place) s = IsIdle s.progress s.link × HasFilled (offered e) part place s.host.record_bytes s.host.device s.link
-StandsBy b p offered (stage.Prepared e) s = IsIdle s.progress s.link × HasValues (offered e) s.host.device s.link
-StandsBy b p offered stage.Empty s = IsIdle s.progress s.link
-StandsBy b p offered (stage.Released e) s = IsIdle s.progress s.link
+abbrev pub AtStage : Snapshot → History → (ℕ → Snapshot) → MoveStage → SeatState PortState → Type 0
+AtStage b p offered stage.Running s = RefinesAt b p (plain_device s.host.device) s.progress s.link
+AtStage b p offered stage.Draining s = RefinesAt b p (plain_device s.host.device) s.progress s.link
+AtStage b p offered (stage.Offering e totals) s = IsIdle s.progress s.link × HasValues (offered e) s.host.device s.link × (s.host.record_bytes ≡ part_bytes (offered e) Record)
+AtStage b p offered (stage.Filling e totals part place) s = IsIdle s.progress s.link × HasFilled (offered e) part place s.host.record_bytes s.host.device s.link
+AtStage b p offered (stage.Prepared e) s = IsIdle s.progress s.link × HasValues (offered e) s.host.device s.link
+AtStage b p offered stage.Empty s = IsIdle s.progress s.link
+AtStage b p offered (stage.Released e) s = IsIdle s.progress s.link
 
 -- a seat is where this is known of its host
 pub record IsSeat (b : Snapshot) (piece : ℕ) (p : History) (offered : ℕ → Snapshot) (name : HostName) (h : HostState) (s : SeatState PortState) : Type 0 where
@@ -67,4 +68,4 @@ pub record IsSeat (b : Snapshot) (piece : ℕ) (p : History) (offered : ℕ → 
   pub stage_is : s.host.stage ≡ h.side.stage
   pub top_is : s.host.top ≡ h.side.top
   pub calls_to_fault : IsInjected h.injected_fault h.calls s.calls_to_fault
-  pub stands : StandsBy b p offered h.side.stage s
+  pub stands : AtStage b p offered h.side.stage s

@@ -13,10 +13,10 @@ use Rattle.tpm_frame.specs.Frames.{frames, frame_length_of, first_frame, IsFrame
 use Rattle.tpm_frame.specs.Sizes.{named_size}
 use Rattle.tpm_frame.proofs.Parts.{first_tell, prefix_is_frame}
 use Rattle.tpm_core.specs.declared.parts.TpmParts.{TpmParts}
-use Rattle.tpm_core.specs.Answers.{answer, values_after}
+use Rattle.tpm_core.specs.Answers.{answer}
 use Rattle.tpm_core.specs.Responses.{cancelled, IsResponse}
 use Rattle.tpm_core.specs.Steps.{IsValid}
-use Rattle.tpm_core.proofs.Replies.{answer_is_response, reply_not_cancelled}
+use Rattle.tpm_core.proofs.Replies.{answer_is_response, answer_not_cancelled}
 use Rattle.ctrl_model.specs.Emulator.{EmulatorState, PendingCommand, holding, response_to, ran}
 use Rattle.ctrl_model.specs.Link.{Link, ChannelState, empty_channel, Handed, HandedBy, takes, with_frame, opened, opened_by, receivable, received, cut}
 use Rattle.ctrl_model.specs.Link as link
@@ -104,13 +104,9 @@ response-given bytes is other =
       is_said = bytes_differ bytes cancelled other;
     }
 
-not_cancelled : (t : TpmParts) (x : List ℕ) → answer t [] x ≢ cancelled
-unfolding answer
-not_cancelled t x = reply_not_cancelled (values_after t []) _
-
 pub given-is : (in_time : Bool) (t : TpmParts) (x : List ℕ) → IsValid t → IsGiven in_time (given in_time t x)
 given-is true t x fit = record { least = omega arith; most = omega arith; head = refl; size = refl; is_said = refl }
-given-is false t x fit = response-given (answer t [] x) (answer_is_response t [] x fit) (not_cancelled t x)
+given-is false t x fit = response-given (answer t [] x) (answer_is_response t [] x fit) (answer_not_cancelled t [] x)
 
 response_held : (in_time : Bool) (t : TpmParts) (x : List ℕ) (d : EmulatorState) (held : Option PendingCommand) → IsEmulator d t held → response_to (record { command = x; cancelled = in_time }) d ≡ given in_time t x
 response_held true t x d held is = rw is.on refl

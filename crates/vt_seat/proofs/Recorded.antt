@@ -27,9 +27,9 @@ use Rattle.move_core.specs.Hosts.{IsConsistentHost}
 use Rattle.move_core.specs.Sides.{is_running, holds_device}
 use Rattle.move_core.specs.Recording.{Records, StopsAndResumes}
 use Rattle.move_core.specs.declared.stage.MoveStage.{MoveStage}
-use Rattle.move_core.specs.declared.stage.MoveStage.TheVariants.{Empty, Running, Offering, Released, Filling, Prepared}
-use Rattle.move_core.specs.declared.answers.OfferFault.{OfferFault}
-use Rattle.move_core.specs.declared.answers.OfferFault.TheVariants as fault
+use Rattle.move_core.specs.declared.stage.MoveStage.TheVariants.{Empty, Running, Draining, Offering, Released, Filling, Prepared}
+use Rattle.move_core.specs.declared.answers.RecordFault.{RecordFault}
+use Rattle.move_core.specs.declared.answers.RecordFault.TheVariants as fault
 use Rattle.vt_seat.specs.Follows.{RefinesAt}
 use Rattle.vt_seat.proofs.Going.{stopped-as, IsStoppedAs}
 use Rattle.vt_seat.proofs.Savings.{IsStopped, stopped_where}
@@ -37,9 +37,10 @@ use Rattle.vt_seat.proofs.Resets.{not_lost}
 
 -- ---- the device of a running host isn't held
 
-still_is : (s : MoveStage) → is_running s ≡ true → holds_device s ≡ false
+pub still_is : (s : MoveStage) → is_running s ≡ true → holds_device s ≡ false
 still_is Running is = refl
 still_is Empty is = absurd cc
+still_is Draining is = absurd cc
 still_is (Offering e totals) is = absurd cc
 still_is (Released e) is = absurd cc
 still_is (Filling e totals part place) is = absurd cc
@@ -105,7 +106,7 @@ recorded_here b p h new progress l count bytes same consistent runs stands worki
     }
 
 -- no other answer comes
-pub no_other : (b : Snapshot) (p : History) (h new : HostModel PortState) (progress : Progress) (l : Link) (f : OfferFault) (bytes : List ℕ)
+pub no_other : (b : Snapshot) (p : History) (h new : HostModel PortState) (progress : Progress) (l : Link) (f : RecordFault) (bytes : List ℕ)
     → IsConsistentHost plain h → is_running h.stage ≡ true → RefinesAt b p (plain_device h.device) progress l → phase_of b p ≢ Lost → Records plain h (Err f) bytes new
     → ((number : ℕ) → f ≢ fault.NotYet number) → ⊥
 no_other b p h new progress l fault.Stopped bytes consistent runs stands working (still, same) other = let wrong : false ≡ true = sym still ∙ runs in cc
@@ -114,5 +115,3 @@ no_other b p h new progress l fault.Device bytes consistent runs stands working 
     let here = values_here b p h new progress l consistent runs stands working paused in
     let wrong : true ≡ false = sym lost ∙ ap (λ (v : DeviceValues). is_lost v.phase) here.0 ∙ not_lost (phase_of b p) working in
     cc
-no_other b p h new progress l fault.EpochEnd bytes consistent runs stands working is other = absurd is
-no_other b p h new progress l (fault.Wires f) bytes consistent runs stands working is other = absurd is

@@ -18,7 +18,7 @@ use crate::wires::MemWires;
 use crb_machine::{Device, stopped_devices_go_on};
 use crb_port::PlainPort;
 use device_record::RECORD_ROOM;
-use move_core::{Host, OfferFault};
+use move_core::{Host, RecordFault};
 use saved_stream::{read_stream, write_stream};
 use state_blobs::LARGEST_BLOB;
 use std::alloc::{AllocError, Global};
@@ -61,7 +61,7 @@ impl Seat<PlainPort> {
                 append(&record[..count], &mut self.wires, into)?;
                 Ok(Saved::Whole)
             }
-            Err(OfferFault::NotYet { number }) => Ok(Saved::NotYet(number)),
+            Err(RecordFault::NotYet { number }) => Ok(Saved::NotYet(number)),
             Err(_) => unreachable!(),
         }
     }

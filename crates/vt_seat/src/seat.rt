@@ -1,9 +1,9 @@
 //! One seat: a host with its worker and the wires to its emulator.
-ghost use Rattle.std.specs.Prelude.{◌≡◌, ◌≤◌, ◌-◌, [], true, Some, IfOk};
+ghost use Rattle.std.specs.Prelude.{◌≡◌, ◌≤◌, ◌-◌, [], true, false, Some, IfOk};
 ghost use Rattle.crb_history.specs.Snapshot.{Snapshot, fresh};
 ghost use Rattle.vt_transcript.specs.OneHost.{OneHost, IsOneHostLine};
 ghost use Rattle.vt_script.specs.Replies.{IsPrintable};
-ghost use Rattle.move_core.specs.Sides.{is_running};
+ghost use Rattle.move_core.specs.Sides.{holds_device, is_draining, is_running};
 ghost use Rattle.vt_seat.specs.Wires.{emulator_of};
 ghost use Rattle.vt_seat.specs.Follows.{Refines, RefinesOneHost, StepRefinesOneHost, CountsFault, said};
 ghost use Rattle.vt_seat.specs.Seats.{world_of, wires_of, new_seat, StartsAs, IsEmptySeat};
@@ -83,6 +83,13 @@ impl<P: Port> Seat<P> {
         matches!(self.host.side(), Side::Running)
     }
 
+    /// Whether the guest has stopped, and its worker goes on up to the offer.
+    pub fn is_draining(&self) -> bool
+        ensures { result ≡ is_draining self.now.host.stage }
+    {
+        matches!(self.host.side(), Side::Draining)
+    }
+
     /// Lets the call of this number on the wires, from now on, fail; see [`MemWires::fail_at`].
     pub fn fail_at(&mut self, call: u64)
         ensures calls_to_fault { self.new ≡ record self.old { calls_to_fault = Some (call - 1) } }
@@ -132,6 +139,7 @@ impl Seat<PlainPort> {
     }
 
     /// Does one line that isn't one of a move, and gives its reply. The host that a line `fail` names isn't looked at.
+    #[tactic(auto, using(crate::proofs::Recorded::still_is))]
     pub fn step(&mut self, line: &Event) -> Reply
         requires runs { is_running self.old.host.stage ≡ true }
         requires one_host { IsOneHostLine line.now }
@@ -171,9 +179,9 @@ impl Seat<PlainPort> {
         }
     }
 
-    /// One step of the worker.
+    /// One step of the worker, which goes on while the host drains.
     pub fn work(&mut self) -> Reply
-        requires runs { is_running self.old.host.stage ≡ true }
+        requires works { holds_device self.old.host.stage ≡ false }
         ensures steps { (b : Snapshot) (s : OneHost) → RefinesOneHost b s (world_of self.old) → StepRefinesOneHost b s Event.Work result (world_of self.new) }
         ensures others { self.new.host ≡ record self.old.host { device = self.new.host.device } }
         ensures faults { (b : Snapshot) (s : OneHost) → RefinesOneHost b s (world_of self.old) → CountsFault result self.old.faults self.new.faults }

@@ -187,6 +187,8 @@ impl Wires for MemWires {
     // What passes is determined by the link.
     ghost traffic = { λ _. None };
 
+    ghost cuts = { λ _. 0 };
+
     fn send(&mut self, chan: Chan, bytes: &[u8]) -> Result<(), Failed> {
         if self.count() {
             self.fault(chan);

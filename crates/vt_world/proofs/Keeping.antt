@@ -1,6 +1,7 @@
 -- What a save and a line of the guest keep of a world.
-use Rattle.std.proofs.Common.{◌≡◌, ℕ, refl, sym, ap, subst, ◌∙◌, Some, None}
+use Rattle.std.proofs.Common.{◌≡◌, ℕ, refl, sym, ap, subst, ◌∙◌, Some, None, ◌⊎◌, inl, inr}
 use Rattle.std.specs.Prelude.{Option, if◌then◌else◌}
+use Rattle.crb_regs.specs.Access.{Access}
 use Rattle.crb_regs.specs.declared.registers.Regs.{Regs}
 use Rattle.crb_port.specs.declared.job.PortState.{PortState}
 use Rattle.crb_history.specs.Snapshot.{Snapshot}
@@ -12,6 +13,8 @@ use Rattle.move_core.specs.Model.{HostModel}
 use Rattle.move_core.specs.declared.stage.MoveStage.{MoveStage}
 use Rattle.move_core.specs.Sides.{is_running}
 use Rattle.two_hosts.specs.Hosts.{TwoHosts}
+use Rattle.vt_script.specs.declared.event.Event.{Event as Line}
+use Rattle.vt_script.specs.declared.event.Event.TheVariants.{Access as AccessLine, Work, Ask, Reset}
 use Rattle.vt_seat.specs.Follows.{RefinesOneHost, IsInjected}
 use Rattle.vt_seat.specs.Saving as seat
 use Rattle.vt_seat.specs.Seats.{world_of}
@@ -76,3 +79,9 @@ others_at_b w new on keeps = record {
 
 pub others_stopped : (w : TwoSeats) → running_of w ≡ None → KeepsOthers w w
 others_stopped w none = record { running = refl; bag = refl; hosts = subst (λ (n : Option HostName). ChangesOnly n w w) (sym none) refl }
+
+-- a line of the guest other than `work` isn't `work`
+pub not_work : (l : Line) → ((a : Access) × (l ≡ AccessLine a)) ⊎ ((l ≡ Ask) ⊎ (l ≡ Reset)) → l ≡ Work → ⊥
+not_work l (inl (a, is)) work = let wrong : AccessLine a ≡ Work = sym is ∙ work in cc
+not_work l (inr (inl is)) work = let wrong : Ask ≡ Work = sym is ∙ work in cc
+not_work l (inr (inr is)) work = let wrong : Reset ≡ Work = sym is ∙ work in cc

@@ -2,7 +2,11 @@ pub mod Buses
 pub mod Pairs
 pub mod Behind
 pub mod Placing
+pub mod GivingUp
+pub mod Drained
 pub mod Handing
 pub mod Movable
 pub mod Short
 pub mod Keeping
+pub mod CountedDrains
+pub mod Worked

@@ -12,7 +12,7 @@ use Rattle.move_core.specs.Model.{HostModel}
 use Rattle.move_core.specs.Requests.{WiresView}
 use Rattle.move_core.specs.Sides.{other, is_active, is_running}
 use Rattle.move_core.specs.declared.stage.MoveStage.{MoveStage}
-use Rattle.move_core.specs.declared.stage.MoveStage.TheVariants.{Empty, Running, Offering, Released, Filling, Prepared}
+use Rattle.move_core.specs.declared.stage.MoveStage.TheVariants.{Empty, Running, Draining, Offering, Released, Filling, Prepared}
 use Rattle.hand_over.specs.Counts.{pieces_from}
 use Rattle.hand_over.specs.Arrival.{arrives, loses}
 use Rattle.hand_over.specs.Ends.{MoveEnds, IsTakenBack}
@@ -25,6 +25,7 @@ use Rattle.vt_world.specs.Placement.{Placement, top_of, placement_of, moved, giv
 pub idle_stage : (s : MoveStage) → is_active s ≡ false → is_running s ≡ false
 idle_stage Empty rests = refl
 idle_stage Running rests = absurd cc
+idle_stage Draining rests = absurd cc
 idle_stage (Offering e totals) rests = refl
 idle_stage (Released e) rests = refl
 idle_stage (Filling e totals part place) rests = refl

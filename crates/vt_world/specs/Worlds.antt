@@ -1,10 +1,10 @@
 -- A world of two hosts and the messages between them. (Own definitions.)
-use Rattle.std.specs.Prelude.{◌≡◌, ℕ, Bool, true, false, Option, Some, None}
+use Rattle.std.specs.Prelude.{◌≡◌, ℕ, Bool, true, false, Option, Some, None, is_some}
 use Rattle.vt_base.specs.declared.types.HostName.{HostName}
 use Rattle.vt_base.specs.declared.types.HostName.TheVariants.{A, B}
 use Rattle.crb_regs.specs.Access.{Access}
 use Rattle.crb_port.specs.declared.job.PortState.{PortState}
-use Rattle.two_seats.specs.Both.{TwoSeats, running_of}
+use Rattle.two_seats.specs.Both.{TwoSeats, running_of, draining_of}
 use Rattle.vt_script.specs.declared.event.Event.{Event as Line}
 use Rattle.vt_script.specs.declared.event.Event.TheVariants.{Access as AccessLine, Work, Ask, Reset, Offer, Deliver, GiveUp, Again, Show, Fail}
 use Rattle.vt_seat.specs.State.{SeatState}
@@ -31,18 +31,18 @@ pub record KeepsOthers (old new : TwoSeats) : Type 0 where
   pub bag : new.bag ≡ old.bag
   pub hosts : ChangesOnly (running_of old) old new
 
--- a line that may find no memory: one that is about messages between the hosts
-abbrev pub takes_memory : Line → Bool
-takes_memory (AccessLine a) = false
-takes_memory Work = false
-takes_memory Ask = false
-takes_memory Reset = false
-takes_memory Offer = true
-takes_memory (Deliver message) = true
-takes_memory GiveUp = true
-takes_memory Again = true
-takes_memory (Show message) = true
-takes_memory (Fail host call) = false
+-- a line that may find no memory: one that is about messages between the hosts, and `work` while a host drains
+abbrev pub takes_memory : TwoSeats → Line → Bool
+takes_memory w (AccessLine a) = false
+takes_memory w Work = is_some (draining_of w)
+takes_memory w Ask = false
+takes_memory w Reset = false
+takes_memory w Offer = true
+takes_memory w (Deliver message) = true
+takes_memory w GiveUp = true
+takes_memory w Again = true
+takes_memory w (Show message) = true
+takes_memory w (Fail host call) = false
 
 -- ---- as the bus of a driver
 

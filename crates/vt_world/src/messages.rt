@@ -1,24 +1,27 @@
 //! The lines of a world that are about messages between its hosts.
-ghost use Rattle.std.specs.Prelude.{◌≡◌, ◌≤◌, ◌<◌, ℕ, List, take, vec_len, Ok, Err, true, false, IfOk, OnErr};
+ghost use Rattle.std.specs.Prelude.{◌≡◌, ◌≤◌, ◌<◌, ℕ, List, take, vec_len, Ok, Err, Some, None, true, false, is_some, IfOk, IfSome, OnErr};
 ghost use Rattle.std.specs.Vec.{vec_capacity};
 ghost use Rattle.crb_history.specs.Snapshot.{Snapshot};
 ghost use Rattle.move_codec.specs.Encoding.{HasPiece};
 ghost use Rattle.move_codec.specs.declared.message.Message.{Message as Sent};
 ghost use Rattle.move_core.specs.Calls.{HasBytes};
+ghost use Rattle.move_core.specs.declared.answers.Offered.TheVariants.{Sent as Sends};
+ghost use Rattle.move_core.specs.declared.answers.Gave.TheVariants.{NotOffering, Abort as Aborts};
 ghost use Rattle.two_hosts.specs.Hosts.{TwoHosts};
 ghost use Rattle.two_hosts.specs.Replies.{reason_in};
-ghost use Rattle.two_seats.specs.Both.{FollowsBoth, StepsBoth, CountsBoth, KeepsIn, KeepsAllIn, said_offer, bag_offer, said_delivery, bag_delivery};
+ghost use Rattle.two_seats.specs.Both.{FollowsBoth, StepsBoth, CountsBoth, draining_of, KeepsIn, KeepsAllIn, said_offer, bag_offer, said_drained, bag_drained, ended_offered, ended_link, said_give_up, bag_give_up, said_delivery, bag_delivery};
 ghost use Rattle.vt_script.specs.Replies.{IsPrintable};
-ghost use Rattle.vt_script.specs.declared.event.Event.TheVariants.{Offer, Deliver, GiveUp, Again, Show};
+ghost use Rattle.vt_script.specs.declared.event.Event.TheVariants.{Work, Offer, Deliver, GiveUp, Again, Show};
+ghost use Rattle.vt_world.specs.Worlds.{KeepsOthers};
 
 use crate::world::World;
 use crb_machine::stopped_devices_go_on;
 use crb_port::PlainPort;
 use move_codec::{Body, Message, write_message};
-use move_core::{Delivered, OfferFault};
+use move_core::{Delivered, Gave, OfferFault, Offered};
 use std::alloc::{AllocError, Global};
 use vt_base::{Bytes, HostName, Reason};
-use vt_script::Reply;
+use vt_script::{Event, Reply};
 
 /// How many messages the bag keeps.
 const ROOM: usize = 16_384;
@@ -45,6 +48,34 @@ impl World {
             Some(HostName::B) => {
                 let answer = self.b.offer();
                 Ok(reply_to_offer(&mut self.bag, answer))
+            }
+        }
+    }
+
+    // The worker of the host that runs or drains takes a step. Where the host drains and its command ended, it offers its guest. The
+    // room in the bag is taken before the step.
+    pub(crate) fn work(&mut self) -> Result<Reply, AllocError>
+        ensures steps { IfOk result (λ reply. (b : Snapshot) (piece : ℕ) (t : TwoHosts) → FollowsBoth b piece t self.old → StepsBoth b piece t Work reply self.new) }
+        ensures faults { IfOk result (λ reply. (b : Snapshot) (piece : ℕ) (t : TwoHosts) → FollowsBoth b piece t self.old → CountsBoth t Work reply self.old self.new) }
+        ensures same { OnErr result (self.new ≡ self.old) }
+        ensures others { IfOk result (λ reply. draining_of self.old ≡ None → KeepsOthers self.old self.new) }
+        ensures memory { OnErr result (is_some (draining_of self.old) ≡ true) }
+        ensures printable { IfOk result IsPrintable }
+    {
+        stopped_devices_go_on::<PlainPort>();
+        match self.draining() {
+            None => Ok(self.guest(&Event::Work)),
+            Some(HostName::A) => {
+                self.bag.reserve(1)?;
+                let step = self.a.work();
+                let answer = self.a.drained();
+                Ok(reply_to_drained(&mut self.bag, step, answer))
+            }
+            Some(HostName::B) => {
+                self.bag.reserve(1)?;
+                let step = self.b.work();
+                let answer = self.b.drained();
+                Ok(reply_to_drained(&mut self.bag, step, answer))
             }
         }
     }
@@ -79,7 +110,7 @@ impl World {
         }
     }
 
-    // The host that offers its guest takes the offer back.
+    // The host that offers its guest, or drains, takes the offer back.
     pub(crate) fn give_up(&mut self) -> Result<Reply, AllocError>
         ensures steps { IfOk result (λ reply. (b : Snapshot) (piece : ℕ) (t : TwoHosts) → FollowsBoth b piece t self.old → StepsBoth b piece t GiveUp reply self.new) }
         ensures faults { IfOk result (λ reply. (b : Snapshot) (piece : ℕ) (t : TwoHosts) → FollowsBoth b piece t self.old → CountsBoth t GiveUp reply self.old self.new) }
@@ -87,11 +118,13 @@ impl World {
         ensures printable { IfOk result IsPrintable }
     {
         self.bag.reserve(1)?;
-        if let Some(m) = self.a.give_up() {
-            return Ok(Reply::ResumedSent(keep(&mut self.bag, m)));
+        let answer = self.a.give_up();
+        if let Some(reply) = reply_to_give_up(&mut self.bag, answer) {
+            return Ok(reply);
         }
-        if let Some(m) = self.b.give_up() {
-            return Ok(Reply::ResumedSent(keep(&mut self.bag, m)));
+        let answer = self.b.give_up();
+        if let Some(reply) = reply_to_give_up(&mut self.bag, answer) {
+            return Ok(reply);
         }
         Ok(Reply::NotOffering)
     }
@@ -150,25 +183,101 @@ fn keep(bag: &mut Vec<Message>, m: Message) -> u32
 }
 
 // The reply to an offer, whose message goes into the bag.
-fn reply_to_offer(bag: &mut Vec<Message>, answer: Result<Message, OfferFault>) -> Reply
+fn reply_to_offer(bag: &mut Vec<Message>, answer: Result<Offered, OfferFault>) -> Reply
     requires most { vec_len bag.old ≤ ROOM }
     requires spare { vec_len bag.old < vec_capacity bag.old }
     ensures said { (number : ℕ) × (new : List Sent) × (result ≡ said_offer answer number) × (bag.new.items ≡ bag_offer answer new bag.old.items)
-        × ((most : ℕ) (sent : List Sent) (m : Sent) → most ≡ ROOM → bag.old.items ≡ take most sent → answer ≡ Ok m → KeepsIn most m number sent new) }
+        × ((most : ℕ) (sent : List Sent) (m : Sent) → most ≡ ROOM → bag.old.items ≡ take most sent → answer ≡ Ok (Sends m) → KeepsIn most m number sent new) }
     ensures most { vec_len bag.new ≤ ROOM }
     ensures printable { IsPrintable result }
 {
     match answer {
-        Ok(m) => {
+        Ok(Offered::Sent(m)) => {
             let epoch = m.epoch;
             let message = keep(bag, m);
             Reply::Offered { epoch, message }
         }
+        Ok(Offered::Draining { number }) => Reply::Draining(number),
         Err(OfferFault::Stopped) => Reply::Stopped,
         Err(OfferFault::Device) => Reply::FailedDevice,
-        Err(OfferFault::NotYet { .. }) => Reply::NotYet,
         Err(OfferFault::EpochEnd) => Reply::EpochEnd,
         Err(OfferFault::Wires(_)) => Reply::Link,
+    }
+}
+
+// The reply to a step of the worker while the host drains, and to what followed it. The message goes into the bag.
+fn reply_to_drained(
+    bag: &mut Vec<Message>,
+    step: Reply,
+    answer: Result<Option<Message>, OfferFault>,
+) -> Reply
+    requires most { vec_len bag.old ≤ ROOM }
+    requires spare { vec_len bag.old < vec_capacity bag.old }
+    requires printable { IsPrintable step }
+    ensures said { (number : ℕ) × (new : List Sent) × (result ≡ said_drained step answer number) × (bag.new.items ≡ bag_drained answer new bag.old.items)
+        × ((most : ℕ) (sent : List Sent) (m : Sent) → most ≡ ROOM → bag.old.items ≡ take most sent → answer ≡ Ok (Some m) → KeepsIn most m number sent new) }
+    ensures most { vec_len bag.new ≤ ROOM }
+    ensures printable { IsPrintable result }
+{
+    match answer {
+        Ok(Some(m)) => {
+            let epoch = m.epoch;
+            let message = keep(bag, m);
+            ended_and_offered(step, epoch, message)
+        }
+        Err(OfferFault::Wires(_)) => ended_and_failed(step),
+        _ => step,
+    }
+}
+
+// The reply to the end of a command that an offer follows.
+fn ended_and_offered(step: Reply, epoch: u64, message: u32) -> Reply
+    requires printable { IsPrintable step }
+    ensures said { result ≡ ended_offered step epoch message }
+    ensures printable { IsPrintable result }
+{
+    match step {
+        Reply::Done(number) => Reply::DoneOffered {
+            number,
+            epoch,
+            message,
+        },
+        Reply::Cancelled(number) => Reply::CancelledOffered {
+            number,
+            epoch,
+            message,
+        },
+        other => other,
+    }
+}
+
+// The reply to the end of a command behind which the link failed.
+fn ended_and_failed(step: Reply) -> Reply
+    requires printable { IsPrintable step }
+    ensures said { result ≡ ended_link step }
+    ensures printable { IsPrintable result }
+{
+    match step {
+        Reply::Done(number) => Reply::DoneLink(number),
+        Reply::Cancelled(number) => Reply::CancelledLink(number),
+        other => other,
+    }
+}
+
+// The reply of a host that takes its offer back, whose message goes into the bag. `None` where it offers nothing.
+fn reply_to_give_up(bag: &mut Vec<Message>, answer: Gave) -> Option<Reply>
+    requires most { vec_len bag.old ≤ ROOM }
+    requires spare { vec_len bag.old < vec_capacity bag.old }
+    ensures said { (number : ℕ) × (new : List Sent) × (result ≡ said_give_up answer number) × (bag.new.items ≡ bag_give_up answer new bag.old.items)
+        × ((most : ℕ) (sent : List Sent) (m : Sent) → most ≡ ROOM → bag.old.items ≡ take most sent → answer ≡ Aborts m → KeepsIn most m number sent new) }
+    ensures most { vec_len bag.new ≤ ROOM }
+    ensures room { answer ≡ NotOffering → bag.new ≡ bag.old }
+    ensures printable { IfSome result IsPrintable }
+{
+    match answer {
+        Gave::NotOffering => None,
+        Gave::Undrained => Some(Reply::Resumed),
+        Gave::Abort(m) => Some(Reply::ResumedSent(keep(bag, m))),
     }
 }
 

@@ -1,14 +1,14 @@
 //! Two hosts, and the messages that were sent between them.
-ghost use Rattle.std.specs.Prelude.{◌≡◌, ◌≤◌, [], ℕ, true, Some, IfOk, OnErr};
+ghost use Rattle.std.specs.Prelude.{◌≡◌, ◌≤◌, [], ℕ, true, false, Some, None, IfOk, OnErr};
 ghost use Rattle.crb_history.specs.Snapshot.{Snapshot, fresh};
 ghost use Rattle.vt_transcript.specs.OneHost.{OneHost};
 ghost use Rattle.vt_transcript.specs.Plain.{is_plain};
 ghost use Rattle.move_core.specs.Sides.{is_running};
 ghost use Rattle.two_hosts.specs.Hosts.{TwoHosts, first_hosts};
-ghost use Rattle.two_seats.specs.Both.{FollowsBoth, StepsBoth, CountsBoth, running_of, seat_of};
+ghost use Rattle.two_seats.specs.Both.{FollowsBoth, StepsBoth, CountsBoth, draining_of, running_of, seat_of};
 ghost use Rattle.vt_script.specs.Replies.{IsPrintable};
 ghost use Rattle.vt_script.specs.Script.{HasNumber};
-ghost use Rattle.vt_script.specs.declared.event.Event.TheVariants.{Fail};
+ghost use Rattle.vt_script.specs.declared.event.Event.TheVariants.{Fail, Work};
 ghost use Rattle.vt_seat.specs.Follows.{Refines, RefinesOneHost, StepRefinesOneHost};
 ghost use Rattle.vt_seat.specs.Seats.{world_of, StartsAs, IsEmptySeat};
 ghost use Rattle.vt_seat.specs.Wires.{emulator_of};
@@ -74,18 +74,19 @@ impl World {
     }
 
     /// Does one line, and gives its reply. After `AllocError`, which comes for `offer`, `deliver`, `giveup`, `again` and `show`
-    /// alone, the world is as before. The numbers of messages and of calls begin with 1.
+    /// alone, and for `work` while a host drains, the world is as before. The numbers of messages and of calls begin with 1.
     pub fn step(&mut self, alloc: Global, line: &Event) -> Result<Reply, AllocError>
         requires number { HasNumber line.now }
         ensures steps { IfOk result (λ reply. (b : Snapshot) (piece : ℕ) (t : TwoHosts) → FollowsBoth b piece t self.old → StepsBoth b piece t line.now reply self.new) }
         ensures faults { IfOk result (λ reply. (b : Snapshot) (piece : ℕ) (t : TwoHosts) → FollowsBoth b piece t self.old → CountsBoth t line.now reply self.old self.new) }
         ensures same { OnErr result (self.new ≡ self.old) }
-        ensures others { IfOk result (λ reply. is_plain line.now ≡ true → KeepsOthers self.old self.new) }
-        ensures memory { OnErr result (takes_memory line.now ≡ true) }
+        ensures others { IfOk result (λ reply. is_plain line.now ≡ true → takes_memory self.old line.now ≡ false → KeepsOthers self.old self.new) }
+        ensures memory { OnErr result (takes_memory self.old line.now ≡ true) }
         ensures printable { IfOk result IsPrintable }
     {
         match line {
-            Event::Access(_) | Event::Work | Event::Ask | Event::Reset => Ok(self.guest(line)),
+            Event::Access(_) | Event::Ask | Event::Reset => Ok(self.guest(line)),
+            Event::Work => self.work(),
             Event::Offer => self.offer(),
             Event::Deliver(number) => self.deliver(alloc, *number),
             Event::GiveUp => self.give_up(),
@@ -96,14 +97,14 @@ impl World {
     }
 
     /// Does an access of the guest, a step of its worker, a cancel at its emulator or a reset, and gives the reply. It takes no
-    /// memory.
+    /// memory. While a host drains its worker's steps are those of [`World::step`].
     pub fn guest(&mut self, line: &Event) -> Reply
         requires plain { is_plain line.now ≡ true }
-        ensures steps { (b : Snapshot) (piece : ℕ) (t : TwoHosts) → FollowsBoth b piece t self.old → StepsBoth b piece t line.now result self.new }
+        ensures steps { (line.now ≡ Work → running_of self.old ≡ None → draining_of self.old ≡ None) → (b : Snapshot) (piece : ℕ) (t : TwoHosts) → FollowsBoth b piece t self.old → StepsBoth b piece t line.now result self.new }
         ensures at_a { running_of self.old ≡ Some HostName.A → (b : Snapshot) (s : OneHost) → RefinesOneHost b s (world_of self.old.a) → StepRefinesOneHost b s line.now result (world_of self.new.a) }
         ensures at_b { running_of self.old ≡ Some HostName.B → (b : Snapshot) (s : OneHost) → RefinesOneHost b s (world_of self.old.b) → StepRefinesOneHost b s line.now result (world_of self.new.b) }
         ensures others { KeepsOthers self.old self.new }
-        ensures faults { (b : Snapshot) (piece : ℕ) (t : TwoHosts) → FollowsBoth b piece t self.old → CountsBoth t line.now result self.old self.new }
+        ensures faults { (line.now ≡ Work → running_of self.old ≡ None → draining_of self.old ≡ None) → (b : Snapshot) (piece : ℕ) (t : TwoHosts) → FollowsBoth b piece t self.old → CountsBoth t line.now result self.old self.new }
         ensures printable { IsPrintable result }
     {
         match self.running() {
@@ -121,6 +122,19 @@ impl World {
             return Some(HostName::A);
         }
         if self.b.is_running() {
+            return Some(HostName::B);
+        }
+        None
+    }
+
+    /// The host that drains. `None` where neither does.
+    pub fn draining(&self) -> Option<HostName>
+        ensures draining { result ≡ draining_of self.now }
+    {
+        if self.a.is_draining() {
+            return Some(HostName::A);
+        }
+        if self.b.is_draining() {
             return Some(HostName::B);
         }
         None

@@ -8,8 +8,8 @@ use Rattle.crb_history.specs.Device.{executed}
 use Rattle.crb_history.specs.Continued.{device_after}
 use Rattle.move_core.specs.Sides.{is_running}
 use Rattle.move_core.specs.Recording.{Records}
-use Rattle.move_core.specs.declared.answers.OfferFault.{OfferFault}
-use Rattle.move_core.specs.declared.answers.OfferFault.TheVariants as fault
+use Rattle.move_core.specs.declared.answers.RecordFault.{RecordFault}
+use Rattle.move_core.specs.declared.answers.RecordFault.TheVariants as fault
 use Rattle.vt_seat.specs.Follows.{RefinesOneHost, tpm_at}
 use Rattle.vt_seat.specs.Seats.{world_of}
 use Rattle.vt_seat.specs.State.{SeatState}
@@ -48,7 +48,7 @@ returns-in-Err-NotYet-clause-saves c = λ b s can.
     let here = follows_any b s _ _ _ _ _ 0 (subst (λ x. RefinesOneHost b s (world_of x)) (sym c.self.view_is) can.follows) in
     let named : c.in-Err-NotYet.field-0 ≡ fault.NotYet c.in-Err-NotYet.number = rw c.in-Err-NotYet.is at c.in-Err-NotYet.field-0-is in
     let early = not_yet_here c.self.inside.host c.write_record-written.new.self c.in-Err-NotYet.number c.write_record-written.new.into
-    (subst (λ (r : Result ℕ OfferFault). Records plain c.self.inside.host r c.write_record-written.new.into c.write_record-written.new.self) (c.in-Err-NotYet.is ∙ ap Err named) c.write_record-written.ensures.records) in (
+    (subst (λ (r : Result ℕ RecordFault). Records plain c.self.inside.host r c.write_record-written.new.into c.write_record-written.new.self) (c.in-Err-NotYet.is ∙ ap Err named) c.write_record-written.ensures.records) in (
       (busy_at b s.history (plain_device c.self.inside.host.device) c.self.inside.worker c.self.inside.wires.link (record { number = c.in-Err-NotYet.number }) here.stands early).busy,
       value_at b s.history (plain_device c.self.inside.host.device) c.self.inside.worker c.self.inside.wires.link (record { number = c.in-Err-NotYet.number }) here.stands early,
       refl,

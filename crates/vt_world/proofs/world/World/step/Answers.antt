@@ -1,4 +1,14 @@
+use Rattle.vt_world.proofs.Keeping.{not_work}
 use Rattle.vt_world.proofs.world.World.step.Goals as goal
+
+pub returns-in-Access-clause-faults : goal.returns-in-Access-clause-faults
+returns-in-Access-clause-faults c = c.guest.ensures.faults (λ work none. absurd (not_work c.args.line.now c.in-Access.is work))
+
+pub returns-in-Work-clause-steps : goal.returns-in-Work-clause-steps
+returns-in-Work-clause-steps c = rw c.in-Work.is c.work.ensures.steps
+
+pub returns-in-Work-clause-faults : goal.returns-in-Work-clause-faults
+returns-in-Work-clause-faults c = rw c.in-Work.is c.work.ensures.faults
 
 pub returns-in-Offer-clause-steps : goal.returns-in-Offer-clause-steps
 returns-in-Offer-clause-steps c = rw c.in-Offer.is c.offer.ensures.steps
