@@ -1,4 +1,4 @@
-"""A plain model of the TPM: five commands, and one or two banks of registers.
+"""A plain model of the TPM: nine commands, and one or two banks of registers.
 
 It follows the tables of docs/TPM.md and docs/STATE.md, and shares nothing with the program.
 """
@@ -7,12 +7,19 @@ from struct import pack, unpack
 
 NO_SESSIONS, SESSIONS, OLD_TAG = 0x8001, 0x8002, 0x00C4
 STARTUP, SHUTDOWN, GET_RANDOM, PCR_READ, PCR_EXTEND = 0x144, 0x145, 0x17B, 0x17E, 0x182
+SELF_TEST, GET_CAPABILITY, GET_TEST_RESULT, HASH = 0x143, 0x17A, 0x17C, 0x17D
+COMMANDS = (SELF_TEST, STARTUP, SHUTDOWN, GET_CAPABILITY, GET_RANDOM, GET_TEST_RESULT, HASH, PCR_READ, PCR_EXTEND)
 SHA256, SHA384 = 0x000B, 0x000C
 # How many bytes a digest has by each algorithm, and what makes it.
 ALGORITHMS = {SHA256: (32, hashlib.sha256), SHA384: (48, hashlib.sha384)}
 PASSWORD, NO_REGISTER = 0x40000009, 0x40000007
 COUNT, KEPT, BLOCK = 24, 16, 32
+LONGEST_MESSAGE = 1024
+HASH_TICKET = bytes.fromhex("8024400000070000")
 BAD_TAG, CANCELED = 0x1E, 0x909
+# The capabilities, and the properties of the last of them.
+ALGORITHM_LIST, COMMAND_LIST, BANK_LIST, PROPERTY_LIST = 0, 2, 5, 6
+PROPERTIES = {0x100: 0x322E3000, 0x105: 0x43524254, 0x112: COUNT, 0x11E: 3968, 0x11F: 3968, 0x129: len(COMMANDS)}
 
 
 def short(code):
@@ -35,6 +42,8 @@ class Cut(Exception):
 class Reader:
     def __init__(self, data):
         self.data = data
+        # The parameter that a refusal names.
+        self.parameter = 1
 
     def take(self, count):
         if count > len(self.data):
@@ -92,7 +101,7 @@ class Tpm:
             raise Refused(BAD_TAG)
         if size != len(command):
             raise Refused(0x142)
-        if code not in (STARTUP, SHUTDOWN, GET_RANDOM, PCR_READ, PCR_EXTEND):
+        if code not in COMMANDS:
             raise Refused(0x143)
         if self.started == (code == STARTUP):
             raise Refused(0x100)
@@ -107,9 +116,9 @@ class Tpm:
         try:
             parameters = self.parameters(code, reader)
         except Cut:
-            raise Refused(0x1DA) from None
+            raise Refused(reader.parameter << 8 | 0xDA) from None
         if reader.data:
-            raise Refused(0x1D5)
+            raise Refused(0x142 if code == GET_TEST_RESULT else reader.parameter << 8 | 0xD5)
         if handle is not None and 17 <= handle <= 22:
             raise Refused(0x907)
         return code, handle, parameters
@@ -143,6 +152,16 @@ class Tpm:
             return kind
         if code == GET_RANDOM:
             return reader.number(2)
+        if code == SELF_TEST:
+            if reader.number(1) > 1:
+                raise Refused(0x1C4)
+            return None
+        if code == GET_TEST_RESULT:
+            return None
+        if code == HASH:
+            return self.message(reader)
+        if code == GET_CAPABILITY:
+            return self.page(reader)
         count = reader.number(4)
         if count > 16:
             raise Refused(0x1D5)
@@ -159,6 +178,34 @@ class Tpm:
             entries.append((algorithm, reader.take(3)))
         return entries
 
+    def message(self, reader):
+        """The algorithm of a hash, and what is hashed."""
+        size = reader.number(2)
+        if size > LONGEST_MESSAGE:
+            raise Refused(0x1D5)
+        message = reader.take(size)
+        reader.parameter = 2
+        algorithm = reader.number(2)
+        if algorithm not in self.banks:
+            raise Refused(0x2C3)
+        reader.parameter = 3
+        if reader.number(4) != NO_REGISTER:
+            raise Refused(0x3C4)
+        return algorithm, message
+
+    @staticmethod
+    def page(reader):
+        """A capability, the key that its page begins at, and how many entries are asked for."""
+        capability = reader.number(4)
+        if capability not in (ALGORITHM_LIST, COMMAND_LIST, BANK_LIST, PROPERTY_LIST):
+            raise Refused(0x1C4)
+        reader.parameter = 2
+        key = reader.number(4)
+        if capability == BANK_LIST and key != 0:
+            raise Refused(0x2C4)
+        reader.parameter = 3
+        return capability, key, reader.number(4)
+
     # What each command does
 
     def do(self, code, handle, parameters):
@@ -172,6 +219,15 @@ class Tpm:
             return NO_SESSIONS, self.random(parameters)
         if code == PCR_READ:
             return NO_SESSIONS, self.read_registers(parameters)
+        if code == SELF_TEST:
+            return NO_SESSIONS, b""
+        if code == GET_TEST_RESULT:
+            return NO_SESSIONS, bytes(6)
+        if code == HASH:
+            size, hasher = ALGORITHMS[parameters[0]]
+            return NO_SESSIONS, pack(">H", size) + hasher(parameters[1]).digest() + HASH_TICKET
+        if code == GET_CAPABILITY:
+            return NO_SESSIONS, self.listed(*parameters)
         if handle != NO_REGISTER:
             self.extend(handle, parameters)
         return SESSIONS, bytes.fromhex("000000000000010000")
@@ -204,6 +260,18 @@ class Tpm:
             read.append(pack(">HB", algorithm, 3) + bytes(shown))
         head = pack(">II", self.counter, len(maps)) + b"".join(read) + pack(">I", len(digests))
         return head + b"".join(pack(">H", len(digest)) + digest for digest in digests)
+
+    def listed(self, capability, key, count):
+        """A page of a list of (key, entry)."""
+        entries = {
+            ALGORITHM_LIST: [(a, pack(">HI", a, 4)) for a in self.banks],
+            COMMAND_LIST: [(code, pack(">I", code | (code == PCR_EXTEND) << 25)) for code in COMMANDS],
+            BANK_LIST: [(a, pack(">HB", a, 3) + b"\xff" * 3) for a in self.banks],
+            PROPERTY_LIST: [(name, pack(">II", name, value)) for name, value in PROPERTIES.items()],
+        }[capability]
+        found = [entry for at, entry in entries if at >= key]
+        given = found if capability == BANK_LIST else found[:count]
+        return pack(">BII", len(given) < len(found), capability, len(given)) + b"".join(given)
 
     def extend(self, register, digests):
         for algorithm, digest in digests:

@@ -3,7 +3,7 @@ import random
 from struct import pack
 
 from plain_device import BUFFER, PAGE
-from plain_tpm import GET_RANDOM, NO_REGISTER, NO_SESSIONS, PASSWORD, PCR_EXTEND, PCR_READ, SESSIONS, SHA256, SHA384, SHUTDOWN, STARTUP
+from plain_tpm import GET_CAPABILITY, GET_RANDOM, GET_TEST_RESULT, HASH, NO_REGISTER, NO_SESSIONS, PASSWORD, PCR_EXTEND, PCR_READ, SELF_TEST, SESSIONS, SHA256, SHA384, SHUTDOWN, STARTUP
 from two_hosts import BAG, TwoHosts
 
 
@@ -31,6 +31,19 @@ def read(draw):
     return framed(NO_SESSIONS, PCR_READ, pack(">I", count) + b"".join(entries))
 
 
+def asked(draw):
+    """GetCapability, from a key near one that is there."""
+    key = draw.choice((0, 0, SHA256, SHA384, 0x112, STARTUP, PCR_EXTEND)) + draw.choice((0, 0, 1))
+    body = pack(">III", draw.choice((0, 2, 5, 6, 6, 1)), draw.choice((0, key)), draw.choice((0, 1, 2, 9, 2**32 - 1)))
+    return framed(NO_SESSIONS, GET_CAPABILITY, body)
+
+
+def hashed(draw):
+    message = bytes(draw.randrange(256) for _ in range(draw.choice((0, 1, 55, 56, 64, 200, 1024, 1025))))
+    behind = pack(">HI", draw.choice((SHA256, SHA384, 4)), draw.choice((NO_REGISTER, NO_REGISTER, 0x4000000B)))
+    return framed(NO_SESSIONS, HASH, pack(">H", len(message)) + message + behind)
+
+
 def command(draw):
     """A command, well formed most of the time."""
     made = draw.choices(
@@ -40,8 +53,12 @@ def command(draw):
             framed(NO_SESSIONS, GET_RANDOM, pack(">H", draw.choice((0, 1, 31, 32, 33, 65535)))),
             read(draw),
             extend(draw),
+            framed(NO_SESSIONS, SELF_TEST, bytes([draw.choice((0, 1, 2))])),
+            framed(NO_SESSIONS, GET_TEST_RESULT),
+            asked(draw),
+            hashed(draw),
         ),
-        (25, 8, 12, 15, 30),
+        (25, 8, 12, 15, 30, 2, 2, 8, 4),
     )[0]
     how = draw.random()
     if how < 0.06:

@@ -61,6 +61,8 @@ class TwoHosts:
     def guest(self, line):
         """The reply to a line of the guest."""
         name = self.name_at("running")
+        if line == "work" and (drains := self.name_at("draining")):
+            return self.drain(drains)
         if name is None:
             return "stopped"
         word, *rest = line.split()
@@ -98,6 +100,16 @@ class TwoHosts:
             return "idle"
         word = self.step(host, device)
         return "%s %d" % (word, device.number)
+
+    def drain(self, name):
+        """The reply to a step of the worker while its host drains. The offer follows the end of the command."""
+        host = self.hosts[name]
+        reply = self.work(host)
+        word = reply.split()[0]
+        if word not in ("done", "cancelled", "lost"):
+            return reply
+        host.stage = "running"
+        return reply if word == "lost" else reply + " " + self.make_offer(name)
 
     def step(self, host, device):
         if device.stage == WAITING:
@@ -145,7 +157,12 @@ class TwoHosts:
         if self.device.phase == LOST:
             return "failed device"
         if self.device.is_under_way():
-            return "not yet"
+            host.stage = "draining"
+            return "draining %d" % self.device.number
+        return self.make_offer(name)
+
+    def make_offer(self, name):
+        host = self.hosts[name]
         if host.fails(9):
             return "link"
         host.top += 1
@@ -155,6 +172,9 @@ class TwoHosts:
         return "offered %d sent %d" % (host.top, number)
 
     def give_up(self):
+        if drains := self.name_at("draining"):
+            self.hosts[drains].stage = "running"
+            return "resumed"
         name = self.name_at("offering")
         if name is None:
             return "not offering"

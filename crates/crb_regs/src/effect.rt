@@ -5,7 +5,7 @@ ghost use Rattle.crb_regs.specs.Effects.{effect};
 use crate::access::Access;
 use crate::registers::{
     CANCEL, CMD_READY, CTRL_CANCEL, CTRL_REQ, CTRL_START, DATA_BUFFER, GO_IDLE, LOC_CTRL,
-    NO_CANCEL, RELINQUISH, REQUEST_ACCESS, START,
+    NO_CANCEL, REGISTER_SIZE, RELINQUISH, REQUEST_ACCESS, START,
 };
 
 /// What a write asks for. Whether it is done depends on the phase.
@@ -28,9 +28,6 @@ pub enum Effect {
     /// Nothing at all.
     Nothing,
 }
-
-/// The longest write that a register takes.
-const REGISTER_SIZE: u8 = 4;
 
 /// What a write asks for, by its place, size and value. The values are the profile's bits; that a register takes
 /// exactly these values, each alone, in a write of at most four bytes at its first byte, is our own rule.

@@ -1,9 +1,12 @@
 //! The registers and what they read.
 ghost use Rattle.std.specs.Prelude.{◌≡◌, ◌/◌, ◌%◌, ◌^◌, ◌<◌, ◌≤◌, false};
 ghost use Rattle.crb_regs.specs.Registers.{register, register_byte, reset_regs};
-ghost use Rattle.crb_regs.specs.LittleEndian.{byte_of};
+ghost use Rattle.crb_regs.specs.LittleEndian.{byte_of, little_endian_at};
 
 use crate::phase::Phase;
+
+/// How many bytes a register has, and how many a write to one has at most.
+pub const REGISTER_SIZE: u8 = 4;
 
 /// Tells the TPM's state to any locality: whether it is valid, established, and assigned.
 pub const LOC_STATE: u32 = 0x00;
@@ -144,9 +147,10 @@ impl Regs {
         }
     }
 
-    // The register of four bytes that begins at an offset; 0 where none begins.
-    fn word(&self, offset: u32) -> u32
-        ensures { result ≡ register self.now offset }
+    /// The register of four bytes that begins at an offset; 0 where none begins.
+    pub fn word(&self, offset: u32) -> u32
+        ensures value { result ≡ register self.now offset }
+        ensures bytes { offset % 4 ≡ 0 → result ≡ little_endian_at (register_byte self.now) offset 4 }
     {
         match offset {
             LOC_STATE => self.state(),

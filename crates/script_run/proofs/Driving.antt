@@ -50,7 +50,7 @@ pub record PortState : Type 0 where
   pub cancel : Bool
   pub past : List Entry
 
-pub record Tells (b : Snapshot) (p : History) (now : PortState) : Type 0 where
+pub record IsKnown (b : Snapshot) (p : History) (now : PortState) : Type 0 where
   pub phase : phase_of b p ≡ now.phase
   pub granted : is_granted b p ≡ now.granted
   pub cancel : is_cancel b p ≡ now.cancel
@@ -58,7 +58,7 @@ pub record Tells (b : Snapshot) (p : History) (now : PortState) : Type 0 where
 
 pub record Stands (b : Snapshot) (now : PortState) (p : History) (s : WorldState) : Type 0 where
   pub after : IsBusAfter b p s
-  pub says : Tells b p now
+  pub says : IsKnown b p now
 
 -- where no command is prepared
 abbrev pub resting : Snapshot → History → PortState
@@ -71,7 +71,7 @@ abbrev after_effect : Effect → Phase → PortState → PortState
 after_effect e phase now = record { phase = phase; granted = granted_after e now.granted; cancel = cancel_after e now.cancel; past = now.past }
 
 -- an accepted write
-is_said-write : (b : Snapshot) (p : History) (a : Access) (e : Effect) (phase : Phase) (now : PortState) → effect_of a ≡ e → next_phase e now.granted now.phase ≡ Some phase → Tells b p now → Tells b (Write a ∷ p) (after_effect e phase now)
+is_said-write : (b : Snapshot) (p : History) (a : Access) (e : Effect) (phase : Phase) (now : PortState) → effect_of a ≡ e → next_phase e now.granted now.phase ≡ Some phase → IsKnown b p now → IsKnown b (Write a ∷ p) (after_effect e phase now)
 is_said-write b p a e phase now is next says = record {
   phase = rw (is, says.granted, says.phase, next) refl;
   granted = rw (is, says.granted, says.phase, next) refl;

@@ -5,7 +5,7 @@ use Rattle.std.specs.Io.KnownBytes.{IsAtEnd}
 use Rattle.vt_base.specs.Faults.{Rose}
 use Rattle.vt_base.specs.declared.status.Status.{Status}
 use Rattle.vt_base.specs.declared.status.Status.TheVariants.{Ok, Usage, Script, ReadFault, WriteFault, Memory, Limit, Refused, NotYet}
-use Rattle.script_run.specs.Output.{SinkView, Wrote, Finishes, Tells}
+use Rattle.script_run.specs.Output.{SinkView, Wrote, Finishes, FinishesAlone}
 use Rattle.script_run.specs.Run.{InputReading, IsToPrint, PrintsFault, Leaves, Writes, IsCramped}
 use Rattle.script_run.specs.Causes.{HasCauses}
 use Rattle.line_loop.proofs.Endings.{leaves-nothing}
@@ -63,7 +63,7 @@ pub leaves-end : (r : InputReading) (status result : Status) (left : Option (Lis
 leaves-end r status result left a b text last ends (inl (is, wrote)) = rw is (ends-with r status left a b text last ends wrote)
 leaves-end r status result left a b text last ends (inr (is, broken)) = rw is (text, inr (inr (inr (status, ends))), broken)
 
-pub leaves-exact : (r : InputReading) (status result : Status) (left : Option (List ℕ)) (a b : SinkView) (text : List ℕ) → IsLast status → r.Ends status text → Tells status text result a b → Leaves result r left a b
+pub leaves-exact : (r : InputReading) (status result : Status) (left : Option (List ℕ)) (a b : SinkView) (text : List ℕ) → IsLast status → r.Ends status text → FinishesAlone status text result a b → Leaves result r left a b
 leaves-exact r status result left a b text last ends (inl (is, kept)) = rw (is, kept) (leaves-nothing a r left)
 leaves-exact r status result left a b text last ends (inr finishes) = leaves-end r status result left a b text last ends finishes
 
@@ -185,7 +185,7 @@ finished-causes status result text a b sure left reads reads_now writes last end
   not_usage = λ e. cc;
 })
 
-pub told-causes : (status result : Status) (text : List ℕ) (a b : SinkView) (sure : Bool) (left : Option (List ℕ)) (reads reads_now writes : ℕ) → IsLast status → (status ≡ Ok → IsAtEnd left) → a.faults ≡ writes → Tells status text result a b
+pub told-causes : (status result : Status) (text : List ℕ) (a b : SinkView) (sure : Bool) (left : Option (List ℕ)) (reads reads_now writes : ℕ) → IsLast status → (status ≡ Ok → IsAtEnd left) → a.faults ≡ writes → FinishesAlone status text result a b
     → HasCauses result sure left reads reads_now writes b.faults
 told-causes status result text a b sure left reads reads_now writes last ended same (inl (is, kept)) = rw is (memory-causes sure left reads reads_now writes b.faults)
 told-causes status result text a b sure left reads reads_now writes last ended same (inr finishes) = finished-causes status result text a b sure left reads reads_now writes last ended same finishes

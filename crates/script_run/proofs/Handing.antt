@@ -19,7 +19,7 @@ use Rattle.script_run.specs.Saved.{Resumption}
 use Rattle.script_run.specs.Placed.{HaveDriven, placed}
 use Rattle.script_run.specs.Calls.{HasDriven}
 use Rattle.script_run.specs.Loop.{HasReplied}
-use Rattle.script_run.specs.Output.{SinkView, Finishes, Tells}
+use Rattle.script_run.specs.Output.{SinkView, Finishes, FinishesAlone}
 use Rattle.script_run.specs.Run.{in_order, meanings, spelled}
 use Rattle.script_run.specs.Start.{base_of}
 use Rattle.script_run.specs.declared.start.Start.{Start}
@@ -85,7 +85,7 @@ resumed-hands piece input from Ok end hands = record { from = from; hands = hand
 resumed-hands piece input from _ end none = none
 
 -- a refusal hands out nothing
-pub refused-hands : (piece : ℕ) (input : List ℕ) (text : List ℕ) (status : Status) (a b : SinkView) → Tells Refused text status a b → HandsOut (HandsResumed piece input) status Nothing
+pub refused-hands : (piece : ℕ) (input : List ℕ) (text : List ℕ) (status : Status) (a b : SinkView) → FinishesAlone Refused text status a b → HandsOut (HandsResumed piece input) status Nothing
 refused-hands piece input text status a b (inl (is, same)) = rw is refl
 refused-hands piece input text status a b (inr (inl (is, wrote))) = rw is refl
 refused-hands piece input text status a b (inr (inr (is, broken))) = rw is refl

@@ -19,7 +19,7 @@ use Rattle.line_loop.proofs.Writing.{wrote-nothing}
 use Rattle.script_run.specs.Ends.{HandsOut, HandsWorld, HandsResumed}
 use Rattle.script_run.specs.Fronts.{IsFront, HasFront}
 use Rattle.script_run.specs.Causes.{HasCauses}
-use Rattle.script_run.specs.Output.{SinkView, Tells}
+use Rattle.script_run.specs.Output.{SinkView, FinishesAlone}
 use Rattle.script_run.specs.Run.{Leaves, followed}
 use Rattle.script_run.specs.Saved.{Resumption, ResumesTo, IsFrontRefused, resumed, checked, refused_text, whole_text}
 use Rattle.script_run.specs.declared.ran.End.{End}
@@ -81,14 +81,14 @@ front-refused : RefusalsStay → (input rest front : List ℕ) (fault : Malforme
 front-refused stay input rest front fault bytes f enough refused = subst (IsFrontRefused fault) (sym f.taken) (stay front rest fault bytes f.none_inside (no_more front rest enough) refused)
 
 pub resumed-refused : RefusalsStay → (piece : ℕ) (old now : Option (List ℕ)) (front : List ℕ) (fault : Malformed) (result : Status) (a b : SinkView) → IsBytes front → IsFront old now front → (wanted_after front ≡ 0) ⊎ IsAtEnd now → IsStreamRefused fault front
-    → Tells Refused (refused_text fault) result a b → IfSome old (λ input. Leaves result (resumed piece input) now a b)
+    → FinishesAlone Refused (refused_text fault) result a b → IfSome old (λ input. Leaves result (resumed piece input) now a b)
 resumed-refused stay piece None now front fault result a b bytes f enough refused exact = tt
 resumed-refused stay piece (Some input) None front fault result a b bytes f enough refused exact = absurd f.taken
 resumed-refused stay piece (Some input) (Some rest) front fault result a b bytes f enough refused exact =
     leaves-exact (resumed piece input) Refused result (Some rest) a b (refused_text fault) tt (fault, front-refused stay input rest front fault bytes f enough refused, refl) exact
 
 pub checked-refused : RefusalsStay → (old now : Option (List ℕ)) (front : List ℕ) (fault : Malformed) (result : Status) (a b : SinkView) → IsBytes front → IsFront old now front → (wanted_after front ≡ 0) ⊎ IsAtEnd now → IsStreamRefused fault front
-    → Tells Refused (refused_text fault) result a b → IfSome old (λ input. Leaves result (checked input) now a b)
+    → FinishesAlone Refused (refused_text fault) result a b → IfSome old (λ input. Leaves result (checked input) now a b)
 checked-refused stay None now front fault result a b bytes f enough refused exact = tt
 checked-refused stay (Some input) None front fault result a b bytes f enough refused exact = absurd f.taken
 checked-refused stay (Some input) (Some rest) front fault result a b bytes f enough refused exact =
@@ -168,7 +168,7 @@ causes-behind result sure sure_now left first reads reads_now writes writes_now 
 }
 
 -- a refusal isn't a good end
-pub not-ok-told : (status : Status) (text : List ℕ) (result : Status) (a b : SinkView) → status ≢ Ok → Tells status text result a b → result ≢ Ok
+pub not-ok-told : (status : Status) (text : List ℕ) (result : Status) (a b : SinkView) → status ≢ Ok → FinishesAlone status text result a b → result ≢ Ok
 not-ok-told status text result a b other (inl (is, same)) = rw is (λ e. cc)
 not-ok-told status text result a b other (inr (inl (is, wrote))) = rw is other
 not-ok-told status text result a b other (inr (inr (is, broken))) = rw is (λ e. cc)
@@ -176,13 +176,13 @@ not-ok-told status text result a b other (inr (inr (is, broken))) = rw is (λ e.
 -- ---- a stream alone
 
 -- nothing stands behind it
-pub behind-none : (front rest : List ℕ) (b : Snapshot) (result : Status) (left : Option (List ℕ)) (x y : SinkView) → IsStream front b → rest ≡ [] → Tells Ok (whole_text (length front)) result x y → Leaves result (checked (front ++ rest)) left x y
+pub behind-none : (front rest : List ℕ) (b : Snapshot) (result : Status) (left : Option (List ℕ)) (x y : SinkView) → IsStream front b → rest ≡ [] → FinishesAlone Ok (whole_text (length front)) result x y → Leaves result (checked (front ++ rest)) left x y
 behind-none front rest b result left x y is none exact =
     let same : front ++ rest ≡ front = ap (λ r. front ++ r) none ∙ append-nil front in
     rw same (leaves-exact (checked front) Ok result left x y (whole_text (length front)) tt (b, is, refl) exact)
 
 -- bytes stand behind it
-pub behind-more : (front rest : List ℕ) (b : Snapshot) (result : Status) (left : Option (List ℕ)) (x y : SinkView) → IsStream front b → 0 < length rest → Tells Refused (refused_text (malformed Extra (length front))) result x y
+pub behind-more : (front rest : List ℕ) (b : Snapshot) (result : Status) (left : Option (List ℕ)) (x y : SinkView) → IsStream front b → 0 < length rest → FinishesAlone Refused (refused_text (malformed Extra (length front))) result x y
     → Leaves result (checked (front ++ rest)) left x y
 behind-more front rest b result left x y is more exact =
     let inside : length front < length (front ++ rest) = omega (arith, more, length-append front rest) in
@@ -191,21 +191,21 @@ behind-more front rest b result left x y is more exact =
     leaves-exact (checked (front ++ rest)) Refused result left x y (refused_text (malformed Extra (length front))) tt (malformed Extra (length front), refused, refl) exact
 
 -- what was read behind it
-pub read-none : (old now : Option (List ℕ)) (got front : List ℕ) (b : Snapshot) (size : ℕ) (result : Status) (x y : SinkView) → Consumes old now got → got ≡ [] → IsAtEnd now → IsStream front b → length front ≡ size → Tells Ok (whole_text size) result x y
+pub read-none : (old now : Option (List ℕ)) (got front : List ℕ) (b : Snapshot) (size : ℕ) (result : Status) (x y : SinkView) → Consumes old now got → got ≡ [] → IsAtEnd now → IsStream front b → length front ≡ size → FinishesAlone Ok (whole_text size) result x y
     → IfSome old (λ rest. Leaves result (checked (front ++ rest)) now x y)
 read-none None now got front b size result x y taken nothing ended is count exact = tt
 read-none (Some rest) None got front b size result x y taken nothing ended is count exact = absurd taken
 read-none (Some rest) (Some left) got front b size result x y taken nothing ended is count exact =
     let none : rest ≡ [] = taken ∙ ap (λ (t : List ℕ). t ++ left) nothing ∙ ended in
-    behind-none front rest b result (Some left) x y is none (subst (λ (n : ℕ). Tells Ok (whole_text n) result x y) (sym count) exact)
+    behind-none front rest b result (Some left) x y is none (subst (λ (n : ℕ). FinishesAlone Ok (whole_text n) result x y) (sym count) exact)
 
-pub read-more : (old now : Option (List ℕ)) (got front : List ℕ) (b : Snapshot) (size : ℕ) (result : Status) (x y : SinkView) → Consumes old now got → 0 < length got → IsStream front b → length front ≡ size → Tells Refused (refused_text (malformed Extra size)) result x y
+pub read-more : (old now : Option (List ℕ)) (got front : List ℕ) (b : Snapshot) (size : ℕ) (result : Status) (x y : SinkView) → Consumes old now got → 0 < length got → IsStream front b → length front ≡ size → FinishesAlone Refused (refused_text (malformed Extra size)) result x y
     → IfSome old (λ rest. Leaves result (checked (front ++ rest)) now x y)
 read-more None now got front b size result x y taken some is count exact = tt
 read-more (Some rest) None got front b size result x y taken some is count exact = absurd taken
 read-more (Some rest) (Some left) got front b size result x y taken some is count exact =
     let more : 0 < length rest = omega (arith, some, ap length taken, length-append got left) in
-    behind-more front rest b result (Some left) x y is more (subst (λ (n : ℕ). Tells Refused (refused_text (malformed Extra n)) result x y) (sym count) exact)
+    behind-more front rest b result (Some left) x y is more (subst (λ (n : ℕ). FinishesAlone Refused (refused_text (malformed Extra n)) result x y) (sym count) exact)
 
 -- of the input
 pub checked-behind : (old now left : Option (List ℕ)) (front : List ℕ) (b : Snapshot) (result : Status) (x y : SinkView) → Consumes old now front

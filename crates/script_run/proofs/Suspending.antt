@@ -17,8 +17,12 @@ use Rattle.vt_transcript.specs.OneHost.{OneHost, one_after, one_of_transcript}
 use Rattle.vt_transcript.specs.Replies.{Transcript, exchange, line_of, history, injected_fault_of, call_count, IsRun}
 use Rattle.vt_base.specs.declared.types.HostName.{HostName}
 use Rattle.vt_base.specs.declared.types.HostName.TheVariants.{A, B}
-use Rattle.two_hosts.specs.Hosts.{TwoHosts, first_hosts, running_host, guest_line_on_any, after_line}
-use Rattle.two_seats.specs.Both.{TwoSeats, FollowsBoth, StepsBoth, one_of, running_of}
+use Rattle.two_hosts.specs.Hosts.{TwoHosts, first_hosts, running_host, working_host, is_working, guest_line_on_any, after_work, after_work_at, after_line}
+use Rattle.two_hosts.proofs.InvariantKept.{running_stage}
+use Rattle.move_core.specs.Sides.{is_running}
+use Rattle.move_core.specs.declared.stage.MoveStage.{MoveStage}
+use Rattle.move_core.specs.declared.stage.MoveStage.TheVariants.{Running}
+use Rattle.two_seats.specs.Both.{TwoSeats, FollowsBoth, StepsBoth, one_of, running_of, draining_of}
 use Rattle.vt_seat.specs.Follows.{Refines, StepRefines, IsInjected}
 use Rattle.vt_seat.specs.Seats.{world_of}
 use Rattle.vt_world.specs.Saving.{CanSave}
@@ -26,7 +30,7 @@ use Rattle.vt_seat.specs.Saving.{Saves}
 use Rattle.vt_seat.specs.declared.saving.Saved.TheVariants as saved
 use Rattle.script_run.specs.Start.{base_of}
 use Rattle.script_run.specs.declared.start.Start.{Start}
-use Rattle.script_run.specs.Output.{SinkView, Wrote, Finishes, Tells}
+use Rattle.script_run.specs.Output.{SinkView, Wrote, Finishes, FinishesAlone}
 use Rattle.script_run.specs.Run.{IsWithinLimits, Leaves, in_order, meanings}
 use Rattle.line_loop.specs.Actors.{GivesBy, done_by, HasEnded}
 use Rattle.script_run.specs.declared.suspend.SuspendedWorld.{SuspendedWorld}
@@ -75,10 +79,22 @@ plain_by (Some Again) line is = cc
 plain_by (Some (Show message)) line is = cc
 plain_by (Some (Fail host call)) line is = cc
 
+-- the stage of a host whose guest runs
+a_runs : (t : TwoHosts) → running_host t ≡ Some A → t.a.side.stage ≡ Running
+a_runs t here = by (is_running t.a.side.stage) (is_running t.b.side.stage) refl here
+  where
+    by : (x y : Bool) → is_running t.a.side.stage ≡ x → (if x then Some A else (if y then Some B else None)) ≡ Some A → t.a.side.stage ≡ Running
+    by true y a is = running_stage t.a.side.stage a
+    by false true a is = absurd cc
+    by false false a is = absurd cc
+
 -- a line of the guest leads host A on as it leads one host
 one_led : (b : Snapshot) (piece : ℕ) (t : TwoHosts) (line : Line) (reply : Reply) → is_plain line ≡ true → running_host t ≡ Some A → one_of (after_line b piece t line reply) A ≡ one_after b (one_of t A) line reply
 one_led b piece t (Access access) reply is here = ap (λ (found : Option HostName). one_of (guest_line_on_any b t found (Access access) reply) A) here
-one_led b piece t Work reply is here = ap (λ (found : Option HostName). one_of (guest_line_on_any b t found Work reply) A) here
+one_led b piece t Work reply is here =
+    let at = a_runs t here in
+    let found : working_host t ≡ Some A = ap (λ (s : MoveStage). if is_working s then Some A else (if is_working t.b.side.stage then Some B else None)) at in
+    ap (λ (k : Option HostName). one_of (after_work b t k reply) A) found ∙ ap (λ (s : MoveStage). one_of (after_work_at b t A s reply) A) at
 one_led b piece t Ask reply is here = ap (λ (found : Option HostName). one_of (guest_line_on_any b t found Ask reply) A) here
 one_led b piece t Reset reply is here = ap (λ (found : Option HostName). one_of (guest_line_on_any b t found Reset reply) A) here
 one_led b piece t Offer reply is here = absurd cc
@@ -87,6 +103,10 @@ one_led b piece t GiveUp reply is here = absurd cc
 one_led b piece t Again reply is here = absurd cc
 one_led b piece t (Show message) reply is here = absurd cc
 one_led b piece t (Fail host call) reply is here = absurd cc
+
+-- where A's guest runs, `work` isn't a line of a host that drains
+pub not_draining : (w : TwoSeats) → running_of w ≡ Some A → running_of w ≡ None → draining_of w ≡ None
+not_draining w here none = absurd (let wrong : Some A ≡ None = sym here ∙ none in cc)
 
 -- the host whose guest runs is the one that is known to
 runs_as_known : (b : Snapshot) (piece : ℕ) (t : TwoHosts) (w : TwoSeats) → FollowsBoth b piece t w → running_of w ≡ Some A → running_host t ≡ Some A

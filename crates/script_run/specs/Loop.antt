@@ -28,7 +28,7 @@ use Rattle.vt_seat.specs.Follows.{Refines}
 use Rattle.vt_seat.specs.Seats.{world_of}
 use Rattle.vt_seat.specs.Saving.{Saves}
 use Rattle.vt_seat.specs.declared.saving.Saved.TheVariants as saved
-use Rattle.script_run.specs.Output.{SinkView, Finishes, Tells}
+use Rattle.script_run.specs.Output.{SinkView, Finishes, FinishesAlone}
 use Rattle.script_run.specs.Run.{in_order, spelled, texts}
 
 -- replies were given to these lines, and they lead the world here
@@ -75,5 +75,5 @@ Suspends first lines output now = (now.start ≡ first.start) × (output ≡ [])
 abbrev pub WritesSaved : Snapshot → History → Status → SinkView → SinkView → Type 0
 WritesSaved b p status old new =
     ((stream : List ℕ) × Saves b p saved.Whole [] stream × Finishes Ok (stream ++ []) status old new)
-    ⊎ (((number : ℕ) × (stream : List ℕ) × Saves b p (saved.NotYet number) [] stream × Tells NotYet (not_yet_text number) status old new)
+    ⊎ (((number : ℕ) × (stream : List ℕ) × Saves b p (saved.NotYet number) [] stream × FinishesAlone NotYet (not_yet_text number) status old new)
     ⊎ ((status ≡ Memory) × (new ≡ old)))

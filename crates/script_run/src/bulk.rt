@@ -5,7 +5,7 @@ ghost use Rattle.script_run.specs.Bulk.{bulk_summary, summary_of};
 ghost use Rattle.script_run.specs.Driven.{driven};
 ghost use Rattle.script_run.specs.Ends.{BulkEnd};
 ghost use Rattle.script_run.specs.Calls.{HasDriven};
-ghost use Rattle.script_run.specs.Output.{seen, Tells};
+ghost use Rattle.script_run.specs.Output.{seen, FinishesAlone};
 ghost use Rattle.script_run.specs.Run.{latest_first};
 ghost use Rattle.script_run.specs.Start.{base_of, default_start};
 
@@ -22,7 +22,7 @@ use vt_world::Pair;
 /// Does the lines that are drawn from a seed as `drive` does them on two new hosts, and writes their summary.
 pub fn bulk<K: Sink>(alloc: Global, seed: u64, count: u32, sink: &mut K) -> Ran
     requires { count ≤ 100000 }
-    ensures writes { Tells Status.Ok (bulk_summary seed count) result.status (seen (K.written sink.old) (K.room sink.old) (K.faults sink.old))
+    ensures writes { FinishesAlone Status.Ok (bulk_summary seed count) result.status (seen (K.written sink.old) (K.room sink.old) (K.faults sink.old))
         (seen (K.written sink.new) (K.room sink.new) (K.faults sink.new)) }
     ensures hands_out { BulkEnd seed count result.status result.end }
 {

@@ -5,7 +5,7 @@ ghost use Rattle.vt_base.specs.Faults.{Rose};
 ghost use Rattle.script_run.specs.Actions.{reading_of};
 ghost use Rattle.script_run.specs.Bulk.{bulk_summary};
 ghost use Rattle.script_run.specs.Ends.{EndOf, BulkEnd, HasEnd};
-ghost use Rattle.script_run.specs.Output.{seen, Finishes, Tells};
+ghost use Rattle.script_run.specs.Output.{seen, Finishes, FinishesAlone};
 ghost use Rattle.script_run.specs.Causes.{HasCauses};
 ghost use Rattle.script_run.specs.Run.{Leaves, Writes, IsCramped, IsGood};
 ghost use Rattle.script_run.specs.Words.{IsAction, IsBulk, IsUnknown, HasPiece, usage_text};
@@ -52,7 +52,7 @@ pub fn run<S: Source, K: Sink>(alloc: Global, words: &[String], source: &mut S, 
 
     // `bulk` reads nothing and writes its one line, or nothing for lack of memory. A sink fails only where the line is
     // longer than its promised room.
-    ensures sums_up { (seed count : ℕ) → IsBulk seed count words.now → Tells Status.Ok (bulk_summary seed count) result.status
+    ensures sums_up { (seed count : ℕ) → IsBulk seed count words.now → FinishesAlone Status.Ok (bulk_summary seed count) result.status
         (seen (K.written sink.old) (K.room sink.old) (K.faults sink.old)) (seen (K.written sink.new) (K.room sink.new) (K.faults sink.new)) }
     ensures needs_no_input { (seed count : ℕ) → IsBulk seed count words.now → source.new ≡ source.old }
 

@@ -5,7 +5,7 @@ use Rattle.vt_base.specs.declared.status.Status.TheVariants.{Ok, WriteFault}
 use Rattle.script_run.specs.Actions.{reading_of}
 use Rattle.script_run.specs.Bulk.{bulk_summary}
 use Rattle.script_run.specs.Ends.{BulkEnd, EndOf, HasEnd}
-use Rattle.script_run.specs.Output.{seen, Tells}
+use Rattle.script_run.specs.Output.{seen, FinishesAlone}
 use Rattle.script_run.specs.Run.{IsCramped, IsGood, Writes}
 use Rattle.script_run.specs.Words.{IsTask}
 use Rattle.script_run.specs.declared.action.Action.{Action}
@@ -75,8 +75,8 @@ returns-in-Some-Bulk-clause-does g c = λ action is. absurd (no-action c.in-Some
 pub returns-in-Some-Bulk-clause-sums_up : goal.returns-in-Some-Bulk-clause-sums_up
 returns-in-Some-Bulk-clause-sums_up g c = λ seed count is.
     let same = same-bulk c.in-Some-Bulk.field-0 c.in-Some-Bulk.seed c.in-Some-Bulk.count c.in-Some-Bulk.field-0-is seed count (c.in-Some-Bulk.ensures.only (Bulk seed count) is) in
-    let first = subst (λ (n : ℕ). Tells Ok (bulk_summary n c.in-Some-Bulk.count) c.bulk.result.status (seen (g.K.Sink.written c.args.sink.now) (g.K.Sink.room c.args.sink.now) (g.K.Sink.faults c.args.sink.now)) (seen (g.K.Sink.written c.bulk.new.sink) (g.K.Sink.room c.bulk.new.sink) (g.K.Sink.faults c.bulk.new.sink))) same.0 c.bulk.ensures.writes in
-    subst (λ (n : ℕ). Tells Ok (bulk_summary seed n) c.bulk.result.status (seen (g.K.Sink.written c.args.sink.now) (g.K.Sink.room c.args.sink.now) (g.K.Sink.faults c.args.sink.now)) (seen (g.K.Sink.written c.bulk.new.sink) (g.K.Sink.room c.bulk.new.sink) (g.K.Sink.faults c.bulk.new.sink))) same.1 first
+    let first = subst (λ (n : ℕ). FinishesAlone Ok (bulk_summary n c.in-Some-Bulk.count) c.bulk.result.status (seen (g.K.Sink.written c.args.sink.now) (g.K.Sink.room c.args.sink.now) (g.K.Sink.faults c.args.sink.now)) (seen (g.K.Sink.written c.bulk.new.sink) (g.K.Sink.room c.bulk.new.sink) (g.K.Sink.faults c.bulk.new.sink))) same.0 c.bulk.ensures.writes in
+    subst (λ (n : ℕ). FinishesAlone Ok (bulk_summary seed n) c.bulk.result.status (seen (g.K.Sink.written c.args.sink.now) (g.K.Sink.room c.args.sink.now) (g.K.Sink.faults c.args.sink.now)) (seen (g.K.Sink.written c.bulk.new.sink) (g.K.Sink.room c.bulk.new.sink) (g.K.Sink.faults c.bulk.new.sink))) same.1 first
 
 pub returns-in-Some-Bulk-clause-hands_out : goal.returns-in-Some-Bulk-clause-hands_out
 returns-in-Some-Bulk-clause-hands_out g c = λ action is. absurd (no-action c.in-Some-Bulk.field-0 c.in-Some-Bulk.seed c.in-Some-Bulk.count c.in-Some-Bulk.field-0-is action (c.in-Some-Bulk.ensures.only (Read action) is))
