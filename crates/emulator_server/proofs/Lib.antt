@@ -1,0 +1,5 @@
+pub mod Knowing
+pub mod Progressing
+pub mod Lengths
+pub mod Connections
+pub mod Once
