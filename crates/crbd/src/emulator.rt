@@ -1,5 +1,5 @@
 //! An emulator that is served on two ports, each by a thread of its own.
-use crate::ending::Ending;
+use crate::ending::{Ending, ending_of_both};
 use crate::words::{Begin, EmulatorCommand};
 use emulator_server::{LockedDesk, Served, serve_emulator};
 use std::alloc::Global;
@@ -62,10 +62,7 @@ where
         move || serve_first(mine, alloc, ctrl, Chan::Ctrl, shared),
         move || serve_first(mine, alloc, data, Chan::Data, other),
     );
-    match Ending::from(ctrl) {
-        Ending::Status(Status::Ok) => Ending::from(data),
-        ending => ending,
-    }
+    ending_of_both(ctrl, data)
 }
 
 /// Takes one connection, and serves it. No other is taken: the listener is dropped, and whoever comes later is refused.

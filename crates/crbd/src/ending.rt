@@ -1,4 +1,7 @@
 //! How the program ends: its text, its exit status and why.
+ghost use Rattle.std.specs.Prelude.{◌≡◌};
+ghost use Rattle.crbd.specs.Endings.{ending_number, ending_of, first_counts};
+
 use emulator_server::Served;
 use vt_base::Status;
 
@@ -20,24 +23,36 @@ pub enum Ending {
     NoSocket,
 }
 
-impl From<Served> for Ending {
-    fn from(served: Served) -> Ending {
-        match served {
-            Served::Ended | Served::Closed => Ending::Status(Status::Ok),
-            Served::ReadFault => Ending::Status(Status::ReadFault),
-            Served::WriteFault => Ending::Status(Status::WriteFault),
-            Served::Memory => Ending::Status(Status::Memory),
-            Served::Turns => Ending::Status(Status::Limit),
-            Served::Cut(_) => Ending::Cut,
-            // (An emulator's connection never ends so.)
-            Served::Bad(_) | Served::Wires(_) => Ending::Status(Status::Refused),
-        }
+/// How the program ends where its connections ended so. That of the control channel counts, and if it ended well, the other.
+pub fn ending_of_both(control: Served, commands: Served) -> Ending
+    ensures { result ≡ first_counts (ending_of control) (ending_of commands) }
+{
+    match ending_of(control) {
+        Ending::Status(Status::Ok) => ending_of(commands),
+        ending => ending,
+    }
+}
+
+fn ending_of(served: Served) -> Ending
+    ensures { result ≡ ending_of served }
+{
+    match served {
+        Served::Ended | Served::Closed => Ending::Status(Status::Ok),
+        Served::ReadFault => Ending::Status(Status::ReadFault),
+        Served::WriteFault => Ending::Status(Status::WriteFault),
+        Served::Memory => Ending::Status(Status::Memory),
+        Served::Turns => Ending::Status(Status::Limit),
+        Served::Cut(_) => Ending::Cut,
+        // (An emulator's connection never ends so.)
+        Served::Bad(_) | Served::Wires(_) => Ending::Status(Status::Refused),
     }
 }
 
 impl Ending {
     /// The exit status.
-    pub fn number(&self) -> u8 {
+    pub fn number(&self) -> u8
+        ensures { result ≡ ending_number self.now }
+    {
         match self {
             Ending::Status(status) => status.number(),
             Ending::Cut => 8,
